@@ -1,0 +1,4 @@
+pub mod Cases
+pub mod Ring
+pub mod Normal
+pub mod Sum

@@ -1,0 +1,4 @@
+pub mod Modulo
+pub mod Prime
+pub mod Moduli
+pub mod Field

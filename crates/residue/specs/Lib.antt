@@ -1,0 +1,3 @@
+pub mod Prime
+pub mod Moduli
+pub mod Residue
