@@ -1,0 +1,1 @@
+// Theory only: document 01's marked examples, tried on the definitions.

@@ -1,0 +1,13 @@
+-- Lists of numbers as vectors: one vector, and a table of vectors of n places each, one after another.
+-- Assumes nothing.
+use mathlib.Core.List.{List}
+use Prim.Native.Nat.{ℕ, _+_, _*_}
+use lib.ListN.{getD}
+
+-- Place i of a list.
+abbrev pub place : List ℕ → ℕ → ℕ
+place l i = getD l i 0
+
+-- Place i of vector k.
+abbrev pub entry : ℕ → List ℕ → ℕ → ℕ → ℕ
+entry n l k i = getD l (k * n + i) 0

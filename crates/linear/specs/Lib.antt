@@ -1,0 +1,5 @@
+pub mod Space
+pub mod Combination
+pub mod Question
+pub mod Rows
+pub mod Flat
