@@ -4,3 +4,4 @@ pub mod Carry
 pub mod Numbers
 pub mod Rows
 pub mod Dual
+pub mod Comb

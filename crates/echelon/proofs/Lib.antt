@@ -1,0 +1,4 @@
+pub mod Steps
+pub mod Backward
+pub mod Order
+pub mod Rank
