@@ -3,8 +3,8 @@
 use mathlib.Core.Path.{_≡_, refl, sym, ap, _∙_}
 use mathlib.Core.HLevel.{Σ-prop-path}
 use mathlib.Core.Logic.{_⊎_, inl, inr}
-use Prim.Native.Nat.{ℕ, zero, suc, _+_, _-_, _*_, _%_, _≤_, _<_}
-use native.Mathlib.Nat.{mod-lt, mod-mod, mod-eq-of-lt, mod-add-mod, add-mod-mod, mul-comm, mod-self, zero-mod, le-refl}
+use Prim.Native.Nat.{ℕ, zero, suc, _+_, _*_, _%_, _<_}
+use native.Mathlib.Nat.{mod-mod, mod-eq-of-lt, mod-add-mod, add-mod-mod, mul-comm, mod-self, zero-mod, le-refl}
 use native.Mathlib.Bridge.{le-prop}
 use native.Mathlib.Omega.{arith}
 use Rattle.algebra.specs.Ring.{Ring, Field}
@@ -48,25 +48,29 @@ module _ (p : ℕ) (H : Prime p) where
 
   abbrev pub residueRing : Ring (F p)
   residueRing = record {
-      𝟘 = res p H 0;
-      𝟙 = res p H 1;
-      _⊕_ = _⊕_ p H;
-      _⊗_ = _⊗_ p H;
-      neg = neg p H;
-      comm = λ a b. ap (res p H) (omega arith);
-      assoc = λ a b c. same (rw (mod-add-mod, add-mod-mod) (ap (λ (x : ℕ). x % p) (omega arith)));
-      zero-l = λ a. same (rw mod-add-mod (ap (λ (x : ℕ). x % p) (omega arith) ∙ mod-eq-of-lt (a .1)));
-      neg-r = λ a. same (rw add-mod-mod (ap (λ (x : ℕ). x % p) {y = p} (omega (arith, a .1)) ∙ mod-self p ∙ sym (zero-mod p)));
-      mcomm = λ a b. ap (res p H) (omega arith);
-      massoc = λ a b c. same (rw (mod-mul-mod, mul-mod-mod) (ap (λ (x : ℕ). x % p) (omega arith)));
-      one-l = λ a. same (rw mod-mul-mod (ap (λ (x : ℕ). x % p) (omega arith) ∙ mod-eq-of-lt (a .1)));
-      dist-l = λ a b c. same (rw (mul-mod-mod, mod-add-mod, add-mod-mod) (ap (λ (x : ℕ). x % p) (omega arith))) }
+    𝟘 = res p H 0;
+    𝟙 = res p H 1;
+    _⊕_ = _⊕_ p H;
+    _⊗_ = _⊗_ p H;
+    neg = neg p H;
+    comm = λ a b. ap (res p H) (omega arith);
+    assoc = λ a b c. same (rw (mod-add-mod, add-mod-mod) (ap (λ (x : ℕ). x % p) (omega arith)));
+    zero-l = λ a. same (rw mod-add-mod (ap (λ (x : ℕ). x % p) (omega arith) ∙ mod-eq-of-lt (a .1)));
+    neg-r = λ a. same (rw add-mod-mod (ap (λ (x : ℕ). x % p) {y = p} (omega (arith, a .1)) ∙ mod-self p ∙ sym (zero-mod p)));
+    mcomm = λ a b. ap (res p H) (omega arith);
+    massoc = λ a b c. same (rw (mod-mul-mod, mul-mod-mod) (ap (λ (x : ℕ). x % p) (omega arith)));
+    one-l = λ a. same (rw mod-mul-mod (ap (λ (x : ℕ). x % p) (omega arith) ∙ mod-eq-of-lt (a .1)));
+    dist-l = λ a b c. same (rw (mul-mod-mod, mod-add-mod, add-mod-mod) (ap (λ (x : ℕ). x % p) (omega arith)));
+  }
 
   abbrev pub inverse : (a : F p) (n : ℕ) → a .0 ≡ n → (a ≡ res p H 0) ⊎ ((b : F p) × (_⊗_ p H b a ≡ res p H 1))
   inverse a zero e = inl (sym (res-val a) ∙ ap (res p H) e)
-  inverse a (suc n) e = inr (res p H (inverseOf p (a .0) (a .0)), same
-      (mod-mul-mod (inverseOf p (a .0) (a .0)) (a .0) p ∙ ap (λ (x : ℕ). x % p) (mul-comm (inverseOf p (a .0) (a .0)) (a .0))
-      ∙ inverse-times p H (a .0) (a .0) (omega arith) (a .1) (le-refl (a .0)) ∙ sym (mod-eq-of-lt (H .two))))
+  inverse a (suc n) e = inr (
+    res p H (inverseOf p (a .0) (a .0)),
+    same
+        (mod-mul-mod (inverseOf p (a .0) (a .0)) (a .0) p ∙ ap (λ (x : ℕ). x % p) (mul-comm (inverseOf p (a .0) (a .0)) (a .0))
+        ∙ inverse-times p H (a .0) (a .0) (omega arith) (a .1) (le-refl (a .0)) ∙ sym (mod-eq-of-lt (H .two))),
+  )
 
   pub one-not-zero : res p H 1 ≡ res p H 0 → ⊥
   one-not-zero e = let q : 1 % p ≡ 0 % p = ap (λ a. a .0) e in omega (arith, mod-eq-of-lt (H .two), zero-mod p)

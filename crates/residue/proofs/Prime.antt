@@ -43,14 +43,19 @@ isPrime-sound p b t = record { two = at-least; none = λ d l u e. go d (p / d) l
   where
     rest : T (ltb p ((b + 2) * (b + 2)) && undivided p b)
     rest = and-r (leb 2 p) (ltb p ((b + 2) * (b + 2)) && undivided p b) t
+
     at-least : 2 ≤ p
     at-least = leb→le 2 p (and-l (leb 2 p) (ltb p ((b + 2) * (b + 2)) && undivided p b) t)
+
     square : p < (b + 2) * (b + 2)
     square = ltb→lt p ((b + 2) * (b + 2)) (and-l (ltb p ((b + 2) * (b + 2))) (undivided p b) rest)
+
     tried : T (undivided p b)
     tried = and-r (ltb p ((b + 2) * (b + 2))) (undivided p b) rest
+
     whole : (d : ℕ) → p % d ≡ 0 → p ≡ p / d * d
     whole d e = let s : p / d * d + p % d ≡ p = div-add-mod' p d in omega arith
+
     -- of d and its partner k the smaller one was tried
     go : (d k : ℕ) → 2 ≤ d → d < p → p % d ≡ 0 → p ≡ k * d → ⊥
     go d zero l u e f = omega arith
@@ -58,10 +63,10 @@ isPrime-sound p b t = record { two = at-least; none = λ d l u e. go d (p / d) l
     go d (suc (suc k)) l u e f = ⊎-elim
         (λ (c : d < b + 2). undivided-sound p b tried d l (omega arith) e)
         (λ (c : b + 2 ≤ d). ⊎-elim
-            (λ (c2 : suc (suc k) < b + 2). undivided-sound p b tried (suc (suc k)) (omega arith) (omega arith)
-                (mod-by (suc (suc k)) p 0 0 d (omega arith) ∙ zero-mod (suc (suc k))))
-            (λ (c2 : b + 2 ≤ suc (suc k)). let m : (b + 2) * (b + 2) ≤ suc (suc k) * d = mul-le-mul c2 c in omega (arith, square))
-            (lt-or-ge (suc (suc k)) (b + 2)))
+        (λ (c2 : suc (suc k) < b + 2). undivided-sound p b tried (suc (suc k)) (omega arith) (omega arith)
+        (mod-by (suc (suc k)) p 0 0 d (omega arith) ∙ zero-mod (suc (suc k))))
+        (λ (c2 : b + 2 ≤ suc (suc k)). let m : (b + 2) * (b + 2) ≤ suc (suc k) * d = mul-le-mul c2 c in omega (arith, square))
+        (lt-or-ge (suc (suc k)) (b + 2)))
         (lt-or-ge d (b + 2))
 
 -- The inverse of x: with p = q x + r that of r, times - q. k bounds the number of steps.
@@ -88,11 +93,15 @@ inverse-times p H (suc k) (suc (suc x)) l u f =
   where
     X : ℕ
     X = suc (suc x)
+
     r : ℕ
     r = p % suc (suc x)
+
     i : ℕ
     i = inverseOf p k r
+
     small : p % suc (suc x) < suc (suc x)
     small = mod-lt p (omega arith)
+
     positive : 1 ≤ p % suc (suc x)
     positive = omega (arith, H .none (suc (suc x)) (omega arith) u)

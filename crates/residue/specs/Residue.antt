@@ -1,7 +1,7 @@
 -- The residues modulo p: the numbers below p, with sum, product and negative taken modulo p.
 -- That they are a field for a prime p is `residues` of proofs/Field.antt.
 -- Assumes nothing.
-use Prim.Native.Nat.{ℕ, zero, _+_, _-_, _*_, _%_, _<_}
+use Prim.Native.Nat.{ℕ, _+_, _-_, _*_, _%_, _<_}
 use native.Mathlib.Nat.{mod-lt}
 use native.Mathlib.Omega.{arith}
 use Rattle.residue.specs.Prime.{Prime}

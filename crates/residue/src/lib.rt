@@ -6,7 +6,22 @@ ghost use Rattle.residue.specs.Moduli.{isModulus};
 
 // Document 01's table; `moduli` of specs/Moduli.antt, whose every entry is proved prime.
 const MODULI: [u32; 16] = [
-    2, 3, 5, 7, 11, 13, 17, 19, 23, 29, 31, 127, 251, 257, 8191, 65521,
+    2,
+    3,
+    5,
+    7,
+    11,
+    13,
+    17,
+    19,
+    23,
+    29,
+    31,
+    127,
+    251,
+    257,
+    8191,
+    65521,
 ];
 
 // Whether p is one of the sixteen.
