@@ -67,9 +67,9 @@ nf (ng a) s = nf a (not s)
 
 module _ {A : Type 0} (R : Ring A) where
   open Ring R using (𝟘, 𝟙, _⊕_, _⊗_, neg, comm, assoc, zero-l, neg-r, mcomm, massoc, one-l, dist-l)
+
   infixl 65 _⊕_
   infixl 70 _⊗_
-
   abbrev pub ⟦_⟧ : Ex → (ℕ → A) → A
   ⟦ v i ⟧ ρ = ρ i
   ⟦ c0 ⟧ ρ = 𝟘
@@ -152,7 +152,9 @@ module _ {A : Type 0} (R : Ring A) where
     where
       l : (a b d : A) → b ⊕ d ⊕ (a ⊕ neg b) ≡ a ⊕ d
       l a b d = ap₂ _⊕_ (comm b d) (comm a (neg b)) ∙ assoc d b (neg b ⊕ a) ∙ ap (λ x. d ⊕ x) (sym (assoc b (neg b) a) ∙ simp (neg-r, zero-l)) ∙ comm d a
+
       r : (b c d : A) → b ⊕ d ⊕ (c ⊕ neg d) ≡ c ⊕ b
       r b c d = ap (λ x. b ⊕ d ⊕ x) (comm c (neg d)) ∙ assoc b d (neg d ⊕ c) ∙ ap (λ x. b ⊕ x) (sym (assoc d (neg d) c) ∙ simp (neg-r, zero-l)) ∙ comm b c
+
       move : (a b c d : A) → a ⊕ d ≡ c ⊕ b → a ⊕ neg b ≡ c ⊕ neg d
       move a b c d e = cancel R (b ⊕ d) (a ⊕ neg b) (c ⊕ neg d) (l a b d ∙ e ∙ sym (r b c d))

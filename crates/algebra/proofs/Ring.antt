@@ -5,9 +5,9 @@ use Rattle.algebra.specs.Ring.{Ring}
 
 module _ {A : Type 0} (R : Ring A) where
   open Ring R using (𝟘, 𝟙, _⊕_, _⊗_, neg, comm, assoc, zero-l, neg-r, mcomm, massoc, one-l, dist-l)
+
   infixl 65 _⊕_
   infixl 70 _⊗_
-
   pub lcomm : (a b c : A) → a ⊕ (b ⊕ c) ≡ b ⊕ (a ⊕ c)
   lcomm a b c = sym (assoc a b c) ∙ ap (λ x. x ⊕ c) (comm a b) ∙ assoc b a c
 

@@ -17,9 +17,9 @@ use Rattle.algebra.proofs.Normal.{Ex, v, c0, c1, _:+_, _:-_, _:*_, ng, 
 
 module _ {A : Type 0} (R : Ring A) where
   open Ring R using (𝟘, 𝟙, _⊕_, _⊗_, neg, zero-l, one-l, mcomm, assoc)
+
   infixl 65 _⊕_
   infixl 70 _⊗_
-
   pub sum-cong : (n : ℕ) (f g : ℕ → A) → ((i : ℕ) → i < n → f i ≡ g i) → sum R n f ≡ sum R n g
   sum-cong zero f g h = refl
   sum-cong (suc n) f g h = ap₂ _⊕_ (sum-cong n f g (λ i l. h i (omega arith))) (h n (omega arith))
@@ -77,7 +77,7 @@ module _ {A : Type 0} (R : Ring A) where
   dot-sub zero y w t b = ring R c0 (c0 :- v 0 :* c0) refl (λ i. b)
   dot-sub (suc n) y w t b = ap (λ z. z ⊕ (y n ⊕ neg (b ⊗ w n)) ⊗ t n) (dot-sub n y w t b)
       ∙ ring R ((v 0 :- v 2 :* v 1) :+ (v 3 :- v 2 :* v 4) :* v 5) ((v 0 :+ v 3 :* v 5) :- v 2 :* (v 1 :+ v 4 :* v 5)) refl
-        (λ i. getD (dot R n y t ∷ dot R n w t ∷ b ∷ y n ∷ w n ∷ t n ∷ []) i 𝟘)
+      (λ i. getD (dot R n y t ∷ dot R n w t ∷ b ∷ y n ∷ w n ∷ t n ∷ []) i 𝟘)
 
   pub dot-comm : (n : ℕ) (x y : ℕ → A) → dot R n x y ≡ dot R n y x
   dot-comm n x y = sum-cong n (λ i. x i ⊗ y i) (λ i. y i ⊗ x i) (λ i l. mcomm (x i) (y i))
@@ -91,7 +91,7 @@ module _ {A : Type 0} (R : Ring A) where
       sum-cong n (λ i. y i ⊗ sum R m (λ k. c k ⊗ w k i)) (λ i. sum R m (λ k. y i ⊗ (c k ⊗ w k i))) (λ i l. sym (sum-mul m (y i) (λ k. c k ⊗ w k i)))
       ∙ sum-swap n m (λ i k. y i ⊗ (c k ⊗ w k i))
       ∙ sum-cong m (λ k. sum R n (λ i. y i ⊗ (c k ⊗ w k i))) (λ k. c k ⊗ dot R n y (w k))
-        (λ k l. sum-cong n (λ i. y i ⊗ (c k ⊗ w k i)) (λ i. c k ⊗ (y i ⊗ w k i)) (λ i l. mlcomm R (y i) (c k) (w k i)) ∙ sum-mul n (c k) (λ i. y i ⊗ w k i))
+      (λ k l. sum-cong n (λ i. y i ⊗ (c k ⊗ w k i)) (λ i. c k ⊗ (y i ⊗ w k i)) (λ i l. mlcomm R (y i) (c k) (w k i)) ∙ sum-mul n (c k) (λ i. y i ⊗ w k i))
 
   abbrev pub tab : ℕ → (ℕ → A) → List A
   tab zero f = []
@@ -112,10 +112,10 @@ module _ {A : Type 0} (R : Ring A) where
   sum-set zero c f g l z h = absurd (not-suc-le-zero l)
   sum-set (suc n) c f g l z h = ⊎-elim
       (λ (q : c ≡ n). ap (λ x. x ⊕ g n) (sum-cong n g f (λ i li. h i (omega arith) (λ r. omega arith)))
-          ∙ ring R (v 0 :+ v 1) (v 0 :+ c0 :+ v 1) refl (λ j. getD (sum R n f ∷ g n ∷ []) j 𝟘)
-          ∙ ap₂ (λ x y. sum R n f ⊕ x ⊕ y) (sym z ∙ ap f q) (ap g (sym q)))
+      ∙ ring R (v 0 :+ v 1) (v 0 :+ c0 :+ v 1) refl (λ j. getD (sum R n f ∷ g n ∷ []) j 𝟘)
+      ∙ ap₂ (λ x y. sum R n f ⊕ x ⊕ y) (sym z ∙ ap f q) (ap g (sym q)))
       (λ (q : c < n). ap₂ _⊕_ (sum-set n c f g q z (λ i li. h i (omega arith))) (h n (omega arith) (λ r. omega arith))
-          ∙ ring R (v 0 :+ v 1 :+ v 2) (v 0 :+ v 2 :+ v 1) refl (λ j. getD (sum R n f ∷ g c ∷ f n ∷ []) j 𝟘))
+      ∙ ring R (v 0 :+ v 1 :+ v 2) (v 0 :+ v 2 :+ v 1) refl (λ j. getD (sum R n f ∷ g c ∷ f n ∷ []) j 𝟘))
       (eq-or-lt-of-le (le-of-suc-le-suc l))
 
   -- one place only
@@ -135,4 +135,4 @@ module _ {A : Type 0} (R : Ring A) where
   sum-lin zero a c d x = ring R c0 (c0 :+ v 0 :* c0) refl (λ j. a)
   sum-lin (suc n) a c d x = ap (λ z. z ⊕ (c n ⊕ a ⊗ d n) ⊗ x n) (sum-lin n a c d x)
       ∙ ring R ((v 0 :+ v 2 :* v 1) :+ (v 3 :+ v 2 :* v 4) :* v 5) ((v 0 :+ v 3 :* v 5) :+ v 2 :* (v 1 :+ v 4 :* v 5)) refl
-        (λ i. getD (sum R n (λ k. c k ⊗ x k) ∷ sum R n (λ k. d k ⊗ x k) ∷ a ∷ c n ∷ d n ∷ x n ∷ []) i 𝟘)
+      (λ i. getD (sum R n (λ k. c k ⊗ x k) ∷ sum R n (λ k. d k ⊗ x k) ∷ a ∷ c n ∷ d n ∷ x n ∷ []) i 𝟘)

@@ -5,9 +5,9 @@ use Rattle.algebra.specs.Ring.{Ring}
 
 module _ {A : Type 0} (R : Ring A) where
   open Ring R using (𝟘, _⊕_, _⊗_)
+
   infixl 65 _⊕_
   infixl 70 _⊗_
-
   -- f 0 + f 1 + .. + f (n - 1)
   abbrev pub sum : ℕ → (ℕ → A) → A
   sum zero f = 𝟘

@@ -24,9 +24,9 @@ use Rattle.echelon.specs.Order.{work, goal, matrix}
 module _ {A : Type 0} (K : Field A) (f : ℕ) (M : ℕ → ℕ → A) where
   open Field K using (R)
   open Ring R using (𝟘, 𝟙, _⊕_, _⊗_, mcomm, comm)
+
   infixl 65 _⊕_
   infixl 70 _⊗_
-
   at-last : (k : ℕ) → work K f M k f ≡ M k zero
   at-last k = put-at R f (λ i. M k (suc i)) (M k zero)
 
@@ -38,6 +38,7 @@ module _ {A : Type 0} (K : Field A) (f : ℕ) (M : ℕ → ℕ → A) where
     where
       At : ℕ → Bool → Type 0
       At i b = sum R m (λ l. c .0 l ⊗ cond b (M l (suc i)) (M l zero)) ≡ cond b (M k (suc i)) (M k zero)
+
       go : (i : ℕ) → i < suc f → (x : Bool) → ltb i f ≡ x → At i (ltb i f)
       go i l true q = subst⁻¹ (At i) q (c .1 (suc i) (let u = ltb-true i f q in omega arith))
       go i l false q = subst⁻¹ (At i) q (c .1 zero (omega arith))
@@ -61,15 +62,18 @@ module _ {A : Type 0} (K : Field A) (f : ℕ) (M : ℕ → ℕ → A) where
       → ((k : ℕ) → k < d → dot R (suc f) y (work K f M k) ≡ 𝟘) → (k : ℕ) → k < d → dot R (suc f) z (M k) ≡ 𝟘
   kills-order d z y z0 zs h k l = sum-first R f (λ j. z j ⊗ M k j)
       ∙ ap₂ _⊕_ (ap (λ x. x ⊗ M k zero) z0 ∙ mcomm (y f) (M k zero))
-        (sum-cong R f (λ i. z (suc i) ⊗ M k (suc i)) (λ i. M k (suc i) ⊗ y i) (λ i li. ap (λ x. x ⊗ M k (suc i)) (zs i li) ∙ mcomm (y i) (M k (suc i))))
+      (sum-cong R f (λ i. z (suc i) ⊗ M k (suc i)) (λ i. M k (suc i) ⊗ y i) (λ i li. ap (λ x. x ⊗ M k (suc i)) (zs i li) ∙ mcomm (y i) (M k (suc i))))
       ∙ comm (M k zero ⊗ y f) (sum R f (λ i. M k (suc i) ⊗ y i))
       ∙ sym (sum-put R f (λ i. M k (suc i)) (M k zero) y) ∙ dot-comm R (suc f) (work K f M k) y ∙ h k l
 
   pub columns-order : (d : ℕ) (z y : ℕ → A) → ((i : ℕ) → i < f → z (suc i) ≡ y i) → Canon K d (λ i k. work K f M k i) f y
       → Canon K d (λ j k. M k (suc j)) f (λ j. z (suc j))
-  columns-order d z y zs c j l q = zs j l ∙ c j l (q .0, λ k lk.
-      sum-cong R j (λ i. q .0 i ⊗ work K f M k i) (λ i. q .0 i ⊗ M k (suc i)) (λ i li. ap (λ x. q .0 i ⊗ x) (before-last k i (omega arith)))
-      ∙ q .1 k lk ∙ sym (before-last k j l))
+  columns-order d z y zs c j l q = zs j l ∙ c j l (
+    q .0,
+    λ k lk.
+        sum-cong R j (λ i. q .0 i ⊗ work K f M k i) (λ i. q .0 i ⊗ M k (suc i)) (λ i li. ap (λ x. q .0 i ⊗ x) (before-last k i (omega arith)))
+        ∙ q .1 k lk ∙ sym (before-last k j l),
+  )
 
 module _ (p : ℕ) (H : Prime p) (d f : ℕ) (E : ℕ → ℕ → ℕ) (chosen : ℕ → Bool) where
   pub opening-of : (r : ℕ → ℕ) → ((k : ℕ) → k < d → r k < p)
@@ -77,30 +81,34 @@ module _ (p : ℕ) (H : Prime p) (d f : ℕ) (E : ℕ → ℕ → ℕ) (chosen :
       → Canon (residues p H) (suc f) (work (residues p H) f (matrix p H E chosen)) d (λ k. res p H (r k))
       → OpeningVector p d (suc f) E chosen r
   opening-of r small adds canon = coeffs-numbers p H (suc f) (rowsOf E chosen) d target r small
-      (canon-coeffs (residues p H) (suc f) (matrix p H E chosen) d (λ j. res p H (target j))
-        ((λ k. res p H (r k)), from-order (residues p H) f (matrix p H E chosen) d (λ k. res p H (r k)) (goal (residues p H) f) (λ j. res p H (target j)) adds
-          (put-at (residues p H .R) f (λ i. res p H 0) (res p H 1)) (λ j l. put-lt (residues p H .R) f (λ i. res p H 0) (res p H 1) j l))
-        (canon-order (residues p H) f (matrix p H E chosen) d (λ k. res p H (r k)) canon))
+      (canon-coeffs (residues p H) (suc f) (matrix p H E chosen) d (λ j. res p H (target j)) (
+        (λ k. res p H (r k)),
+        from-order (residues p H) f (matrix p H E chosen) d (λ k. res p H (r k)) (goal (residues p H) f) (λ j. res p H (target j)) adds
+            (put-at (residues p H .R) f (λ i. res p H 0) (res p H 1)) (λ j l. put-lt (residues p H .R) f (λ i. res p H 0) (res p H 1) j l),
+      )
+      (canon-order (residues p H) f (matrix p H E chosen) d (λ k. res p H (r k)) canon))
 
   pub witness-of : (z y : ℕ → ℕ) → ((j : ℕ) → j < suc f → z j < p) → z 0 ≡ 1 → y f ≡ 1 → ((i : ℕ) → i < f → z (suc i) ≡ y i)
       → ((k : ℕ) → k < d → dot (residues p H .R) (suc f) (λ i. res p H (y i)) (work (residues p H) f (matrix p H E chosen) k) ≡ res p H 0)
       → Canon (residues p H) d (λ i k. work (residues p H) f (matrix p H E chosen) k i) f (λ i. res p H (y i))
       → Witness p d (suc f) E chosen z
   witness-of z y small z0 yf zs kills canon = record {
-      kept = kept (residues p H) d columns;
-      rule = subst⁻¹ (λ (m : ℕ). KeptRule p d (columnsOf E chosen) (kept (residues p H) d columns) m) others
-          (rule-down p H d (columnsOf E chosen) (kept (residues p H) d columns) f (keeps (residues p H) d columns f));
-      first = z0;
-      below = small;
-      only = subst⁻¹ (λ (m : ℕ). (j : ℕ) → j < m → kept (residues p H) d columns j ≡ false → z (suc j) ≡ 0) others
-          (λ j l q. sym (mod-eq-of-lt (small (suc j) (omega arith))) ∙ res-zero p H (res p H (z (suc j)))
-            (canon-only (residues p H) d columns f (λ j. res p H (z (suc j)))
-              (columns-order (residues p H) f (matrix p H E chosen) d (λ j. res p H (z j)) (λ i. res p H (y i)) (λ i l. ap (res p H) (zs i l)) canon) j l q));
-      kills = λ k l. dot-iff p H (suc f) z (rowsOf E chosen k) 0 .1
-          (kills-order (residues p H) f (matrix p H E chosen) d (λ j. res p H (z j)) (λ i. res p H (y i))
-            (ap (res p H) (z0 ∙ sym yf)) (λ i l. ap (res p H) (zs i l)) kills k l) ∙ zero-mod p }
+    kept = kept (residues p H) d columns;
+    rule = subst⁻¹ (λ (m : ℕ). KeptRule p d (columnsOf E chosen) (kept (residues p H) d columns) m) others
+        (rule-down p H d (columnsOf E chosen) (kept (residues p H) d columns) f (keeps (residues p H) d columns f));
+    first = z0;
+    below = small;
+    only = subst⁻¹ (λ (m : ℕ). (j : ℕ) → j < m → kept (residues p H) d columns j ≡ false → z (suc j) ≡ 0) others
+        (λ j l q. sym (mod-eq-of-lt (small (suc j) (omega arith))) ∙ res-zero p H (res p H (z (suc j)))
+        (canon-only (residues p H) d columns f (λ j. res p H (z (suc j)))
+        (columns-order (residues p H) f (matrix p H E chosen) d (λ j. res p H (z j)) (λ i. res p H (y i)) (λ i l. ap (res p H) (zs i l)) canon) j l q));
+    kills = λ k l. dot-iff p H (suc f) z (rowsOf E chosen k) 0 .1
+        (kills-order (residues p H) f (matrix p H E chosen) d (λ j. res p H (z j)) (λ i. res p H (y i))
+        (ap (res p H) (z0 ∙ sym yf)) (λ i l. ap (res p H) (zs i l)) kills k l) ∙ zero-mod p;
+  }
     where
       columns : ℕ → ℕ → Rattle.residue.specs.Residue.F p
       columns j k = matrix p H E chosen k (suc j)
+
       others : suc f - 1 ≡ f
       others = omega arith

@@ -42,16 +42,16 @@ count-set : (n c : ℕ) (f g : ℕ → Bool) → c < n → f c ≡ false → g c
 count-set zero c f g l a b h = absurd (not-suc-le-zero l)
 count-set (suc n) c f g l a b h = ⊎-elim
     (λ (q : c ≡ n). ap₂ (λ (x : ℕ) y. x + cond y 1 0) (count-cong n g f (λ i li. h i (λ r. omega arith))) (ap g (sym q) ∙ b)
-        ∙ (let z : cond (f n) 1 0 ≡ 0 = ap {B = ℕ} (λ (x : Bool). cond x 1 0) (ap f (sym q) ∙ a) in omega arith))
+    ∙ (let z : cond (f n) 1 0 ≡ 0 = ap {B = ℕ} (λ (x : Bool). cond x 1 0) (ap f (sym q) ∙ a) in omega arith))
     (λ (q : c < n). ap₂ (λ (x : ℕ) y. x + cond y 1 0) (count-set n c f g q a b h) (h n (λ r. omega arith)) ∙ omega arith)
     (eq-or-lt-of-le (le-of-suc-le-suc l))
 
 module _ {A : Type 0} (K : Field A) (n : ℕ) (w : ℕ → ℕ → A) where
   open Field K using (R)
   open Ring R using (𝟘, 𝟙, _⊕_, _⊗_, neg, zero-l, one-l, mcomm, massoc)
+
   infixl 65 _⊕_
   infixl 70 _⊗_
-
   module _ (m s : ℕ) (S : ℕ → Line A) (b : Basis K n w m s S) where
     abbrev isPiv : ℕ → ℕ → Bool
     isPiv zero i = false
@@ -65,9 +65,9 @@ module _ {A : Type 0} (K : Field A) (n : ℕ) (w : ℕ → ℕ → A) where
     find (suc j) i = ⊎-elim
         (λ (q : i ≡ S j .piv). inl (j, omega arith, q, ap (λ x. cond x true (isPiv j i)) (eq-eqb i (S j .piv) q)))
         (λ ne. ⊎-elim
-            (λ f. inl (f .0, omega arith, f .2, ap (λ x. cond x true (isPiv j i)) (ne-eqb i (S j .piv) ne) ∙ f .3))
-            (λ f. inr (below-suc (λ l. i ≡ S l .piv → ⊥) j (f .0) ne, ap (λ x. cond x true (isPiv j i)) (ne-eqb i (S j .piv) ne) ∙ f .1))
-            (find j i))
+        (λ f. inl (f .0, omega arith, f .2, ap (λ x. cond x true (isPiv j i)) (ne-eqb i (S j .piv) ne) ∙ f .3))
+        (λ f. inr (below-suc (λ l. i ≡ S l .piv → ⊥) j (f .0) ne, ap (λ x. cond x true (isPiv j i)) (ne-eqb i (S j .piv) ne) ∙ f .1))
+        (find j i))
         (same? i (S j .piv))
 
     distinct : (j : ℕ) → j < s → (l : ℕ) → l < j → S j .piv ≡ S l .piv → ⊥
@@ -88,15 +88,15 @@ module _ {A : Type 0} (K : Field A) (n : ℕ) (w : ℕ → ℕ → A) where
     lower i c li h ne (suc j) lj = let ih : (l : ℕ) → l < j → (k : ℕ) → k ≤ i → c l ⊗ S l .vec k ≡ 𝟘 = lower i c li h ne j (omega arith) in
         below-suc (λ l. (k : ℕ) → k ≤ i → c l ⊗ S l .vec k ≡ 𝟘) j ih
         (λ k lk. ⊎-elim
-            (λ (a : i < S j .piv). ap (λ z. c j ⊗ z) (b .lead j lj k (omega arith)) ∙ mul-zero R (c j))
-            (λ (a : S j .piv < i). ap (λ z. z ⊗ S j .vec k)
-                (sym (one-r R (c j)) ∙ ap (λ z. c j ⊗ z) (sym (b .one j lj))
-                  ∙ sym (sum-at R s j (λ l. c l ⊗ S l .vec (S j .piv)) lj (λ l ll nl. ⊎-elim
-                    (λ q. ih l q (S j .piv) (omega arith))
-                    (λ q. ap (λ z. c l ⊗ z) (b .low l ll j q) ∙ mul-zero R (c l))
-                    (apart l j nl)))
-                  ∙ h (S j .piv) a) ∙ zero-mul R (S j .vec k))
-            (apart i (S j .piv) (ne j lj)))
+        (λ (a : i < S j .piv). ap (λ z. c j ⊗ z) (b .lead j lj k (omega arith)) ∙ mul-zero R (c j))
+        (λ (a : S j .piv < i). ap (λ z. z ⊗ S j .vec k)
+        (sym (one-r R (c j)) ∙ ap (λ z. c j ⊗ z) (sym (b .one j lj))
+        ∙ sym (sum-at R s j (λ l. c l ⊗ S l .vec (S j .piv)) lj (λ l ll nl. ⊎-elim
+        (λ q. ih l q (S j .piv) (omega arith))
+        (λ q. ap (λ z. c l ⊗ z) (b .low l ll j q) ∙ mul-zero R (c l))
+        (apart l j nl)))
+        ∙ h (S j .piv) a) ∙ zero-mul R (S j .vec k))
+        (apart i (S j .piv) (ne j lj)))
 
     -- a column that is no pivot's is a combination of those before it
     pub others : (i : ℕ) → i < n → ((l : ℕ) → l < s → i ≡ S l .piv → ⊥) → Comb K m (λ i k. w k i) i (λ k. w k i)
@@ -128,11 +128,15 @@ module _ {A : Type 0} (K : Field A) (n : ℕ) (w : ℕ → ℕ → A) where
     where
       more : (g : ℕ → A) × ((j : ℕ) → j < s → g j ≡ neg (t (S j .piv) ⊕ sum R j (λ l. g l ⊗ S l .vec (S j .piv))))
           → (g : ℕ → A) × ((j : ℕ) → j < suc s → g j ≡ neg (t (S j .piv) ⊕ sum R j (λ l. g l ⊗ S l .vec (S j .piv))))
-      more (g, h) = (put R s g a, below-suc (λ j. put R s g a j ≡ neg (t (S j .piv) ⊕ sum R j (λ l. put R s g a l ⊗ S l .vec (S j .piv)))) s
-          (λ j l. put-lt R s g a j l ∙ h j l ∙ same j (omega arith)) (put-at R s g a ∙ same s (omega arith)))
+      more (g, h) = (
+        put R s g a,
+        below-suc (λ j. put R s g a j ≡ neg (t (S j .piv) ⊕ sum R j (λ l. put R s g a l ⊗ S l .vec (S j .piv)))) s
+            (λ j l. put-lt R s g a j l ∙ h j l ∙ same j (omega arith)) (put-at R s g a ∙ same s (omega arith)),
+      )
         where
           a : A
           a = neg (t (S s .piv) ⊕ sum R s (λ l. g l ⊗ S l .vec (S s .piv)))
+
           same : (j : ℕ) → j ≤ s → neg (t (S j .piv) ⊕ sum R j (λ l. g l ⊗ S l .vec (S j .piv))) ≡ neg (t (S j .piv) ⊕ sum R j (λ l. put R s g a l ⊗ S l .vec (S j .piv)))
           same j l = ap (λ z. neg (t (S j .piv) ⊕ z)) (sum-cong R j (λ l. g l ⊗ S l .vec (S j .piv)) (λ l. put R s g a l ⊗ S l .vec (S j .piv))
               (λ i li. ap (λ z. z ⊗ S i .vec (S j .piv)) (sym (put-lt R s g a i (omega arith)))))
@@ -151,10 +155,13 @@ module _ {A : Type 0} (K : Field A) (n : ℕ) (w : ℕ → ℕ → A) where
       turn : (s : ℕ) × (S : ℕ → Line A) × Basis K n w m s S → (s : ℕ) × (S : ℕ → Line A) × Basis K n w (suc m) s S
       turn (s, S, b) = let f = factors S (w m) s in ⊎-elim
           (λ z. (s, S, skip K n w m s S b (f .0) (λ i. w m i ⊕ sum R s (λ l. f .0 l ⊗ S l .vec i)) (record { facs = f .1; left = λ i l. refl }) z))
-          (λ u. let y : Line A = record { vec = λ i. u .3 ⊗ (w m i ⊕ sum R s (λ l. f .0 l ⊗ S l .vec i)); fac = f .0; inv = u .3; piv = u .0; src = m } in
-            (suc s, (λ j. cond (ltb j s) (S j) y), keep K n w m s S b (λ j. cond (ltb j s) (S j) y) (f .0) (λ i. w m i ⊕ sum R s (λ l. f .0 l ⊗ S l .vec i)) (y .vec) (f .0) (u .0) (u .3)
-              (record { facs = f .1; left = λ i l. refl }) (u .1) (u .2) (u .4)
-              (λ j l. ap (λ x. cond x (S j) y) (lt-ltb j s l)) (ap (λ x. cond x (S s) y) (le-ltb s s (omega arith))) (λ i l. refl) (λ l ll. refl)))
+          (λ u. let y : Line A = record { vec = λ i. u .3 ⊗ (w m i ⊕ sum R s (λ l. f .0 l ⊗ S l .vec i)); fac = f .0; inv = u .3; piv = u .0; src = m } in (
+            suc s,
+            (λ j. cond (ltb j s) (S j) y),
+            keep K n w m s S b (λ j. cond (ltb j s) (S j) y) (f .0) (λ i. w m i ⊕ sum R s (λ l. f .0 l ⊗ S l .vec i)) (y .vec) (f .0) (u .0) (u .3)
+                (record { facs = f .1; left = λ i l. refl }) (u .1) (u .2) (u .4)
+                (λ j l. ap (λ x. cond x (S j) y) (lt-ltb j s l)) (ap (λ x. cond x (S s) y) (le-ltb s s (omega arith))) (λ i l. refl) (λ l ll. refl),
+          ))
           (first (λ i. w m i ⊕ sum R s (λ l. f .0 l ⊗ S l .vec i)) n)
 
   -- Once as many lines are kept as there are places, no row is kept any more.
@@ -173,7 +180,7 @@ module _ {A : Type 0} (K : Field A) (f : ℕ) (M : ℕ → ℕ → A) where
   same-kept k = ⊎-elim
       (λ a. kept-false K (suc f) (work K f M) k (to-work K f M k k (a .0)) ∙ sym (kept-false K (suc f) M k (a .0)))
       (λ y. kept-true K (suc f) (work K f M) k (λ c. never K (suc f) M k (M k) (from-work K f M k k c) y)
-        ∙ sym (kept-true K (suc f) M k (λ c. never K (suc f) M k (M k) c y)))
+      ∙ sym (kept-true K (suc f) M k (λ c. never K (suc f) M k (M k) c y)))
       (solve K (suc f) M k (M k))
 
   -- What the elimination counts is the number of kept rows, and the number of kept columns among all, both in the document's order.

@@ -11,9 +11,9 @@ use Rattle.echelon.specs.Basis.{Line}
 module _ {A : Type 0} (K : Field A) (n : ℕ) (w : ℕ → ℕ → A) (s : ℕ) (S : ℕ → Line A) where
   open Field K using (R)
   open Ring R using (𝟘, 𝟙, _⊕_, _⊗_)
+
   infixl 65 _⊕_
   infixl 70 _⊗_
-
   -- t as weights of the d rows, solved from the last line to line j: r are the weights so far, a the same by the lines' numbers, h is
   -- what t asks of each line.
   pub record Solving (d : ℕ) (t h : ℕ → A) (j : ℕ) (a r : ℕ → A) : Type 0 where

@@ -21,9 +21,9 @@ pub record Line (A : Type 0) : Type 0 where
 module _ {A : Type 0} (K : Field A) (n : ℕ) (w : ℕ → ℕ → A) where
   open Field K using (R)
   open Ring R using (𝟘, 𝟙, _⊕_, _⊗_, neg)
+
   infixl 65 _⊕_
   infixl 70 _⊗_
-
   -- S 0 .. S (s - 1) are the lines of the first m rows, of which s are kept.
   pub record Basis (m s : ℕ) (S : ℕ → Line A) : Type 0 where
     pub inside : (j : ℕ) → j < s → S j .piv < n

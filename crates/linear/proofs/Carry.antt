@@ -72,26 +72,41 @@ module _ (p : ℕ) (H : Prime p) where
     rule-down b m h k l = ((λ q c. h k l .0 q (comb-of-up b k (N k) c)), λ f. h k l .1 (λ c. f (comb-of-down b k (N k) c)))
 
     pub coeffs-up : (m : ℕ) (t c : ℕ → ℕ) → Coefficients p n N m t c → Coeffs (residues p H) n W m (λ i. res p H (t i)) (λ k. res p H (c k))
-    coeffs-up m t c o = record { kept = o .kept; keeps = rule-up (o .kept) m (o .rule);
-        only = λ k l q. ap (res p H) (o .only k l q); gives = adds-up m c t (o .gives) }
+    coeffs-up m t c o = record {
+      kept = o .kept;
+      keeps = rule-up (o .kept) m (o .rule);
+      only = λ k l q. ap (res p H) (o .only k l q);
+      gives = adds-up m c t (o .gives);
+    }
 
     -- Numbers below p whose residues are the coefficients are the coefficients.
     pub coeffs-numbers : (m : ℕ) (t c : ℕ → ℕ) → ((k : ℕ) → k < m → c k < p)
         → Coeffs (residues p H) n W m (λ i. res p H (t i)) (λ k. res p H (c k)) → Coefficients p n N m t c
-    coeffs-numbers m t c small o = record { kept = o .kept; rule = rule-down (o .kept) m (o .keeps); below = small;
-        only = λ k l q. sym (mod-eq-of-lt (small k l)) ∙ res-zero p H (res p H (c k)) (o .only k l q);
-        gives = λ i l. dot-iff m c (λ k. N k i) (t i) .1 (o .gives i l) }
+    coeffs-numbers m t c small o = record {
+      kept = o .kept;
+      rule = rule-down (o .kept) m (o .keeps);
+      below = small;
+      only = λ k l q. sym (mod-eq-of-lt (small k l)) ∙ res-zero p H (res p H (c k)) (o .only k l q);
+      gives = λ i l. dot-iff m c (λ k. N k i) (t i) .1 (o .gives i l);
+    }
 
     pub coeffs-down : (m : ℕ) (t : ℕ → ℕ) (c : ℕ → F p) → Coeffs (residues p H) n W m (λ i. res p H (t i)) c → Coefficients p n N m t (λ k. c k .0)
-    coeffs-down m t c o = record { kept = o .kept; rule = rule-down (o .kept) m (o .keeps); below = λ k l. c k .1;
-        only = λ k l q. res-zero p H (c k) (o .only k l q); gives = adds-down m c t (o .gives) }
+    coeffs-down m t c o = record {
+      kept = o .kept;
+      rule = rule-down (o .kept) m (o .keeps);
+      below = λ k l. c k .1;
+      only = λ k l q. res-zero p H (c k) (o .only k l q);
+      gives = adds-down m c t (o .gives);
+    }
 
     pub functional-up : (m : ℕ) (t y : ℕ → ℕ) → Functional p n N m t y → Separates (residues p H) n W m (λ i. res p H (t i)) (λ i. res p H (y i))
     functional-up m t y f = record {
-        kills = λ k l. dot-iff n y (N k) 0 .0 (f .kills k l ∙ sym (zero-mod p));
-        one = dot-iff n y t 1 .0 (f .one ∙ sym (mod-eq-of-lt (H .two))) }
+      kills = λ k l. dot-iff n y (N k) 0 .0 (f .kills k l ∙ sym (zero-mod p));
+      one = dot-iff n y t 1 .0 (f .one ∙ sym (mod-eq-of-lt (H .two)));
+    }
 
     pub functional-down : (m : ℕ) (t : ℕ → ℕ) (y : ℕ → F p) → Separates (residues p H) n W m (λ i. res p H (t i)) y → Functional p n N m t (λ i. y i .0)
     functional-down m t y s = record {
-        kills = λ k l. dot-iff n (λ i. y i .0) (N k) 0 .1 (dot-val n y (W k) ∙ s .kills k l) ∙ zero-mod p;
-        one = dot-iff n (λ i. y i .0) t 1 .1 (dot-val n y (λ i. res p H (t i)) ∙ s .one) ∙ mod-eq-of-lt (H .two) }
+      kills = λ k l. dot-iff n (λ i. y i .0) (N k) 0 .1 (dot-val n y (W k) ∙ s .kills k l) ∙ zero-mod p;
+      one = dot-iff n (λ i. y i .0) t 1 .1 (dot-val n y (λ i. res p H (t i)) ∙ s .one) ∙ mod-eq-of-lt (H .two);
+    }

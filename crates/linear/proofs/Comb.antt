@@ -15,9 +15,9 @@ use Rattle.linear.specs.Space.{Comb}
 module _ {A : Type 0} (K : Field A) (n : ℕ) where
   open Field K using (R)
   open Ring R using (𝟘, 𝟙, _⊕_, _⊗_, neg, zero-l, one-l, mcomm, massoc)
+
   infixl 65 _⊕_
   infixl 70 _⊗_
-
   pub comb-lin : (w : ℕ → ℕ → A) (m : ℕ) (t u : ℕ → A) (a : A) → Comb K n w m t → Comb K n w m u → Comb K n w m (λ i. t i ⊕ a ⊗ u i)
   comb-lin w m t u a c d = ((λ k. c .0 k ⊕ a ⊗ d .0 k), λ i l. sum-lin R m a (c .0) (d .0) (λ k. w k i) ∙ ap₂ (λ x y. x ⊕ a ⊗ y) (c .1 i l) (d .1 i l))
 
@@ -40,8 +40,11 @@ module _ {A : Type 0} (K : Field A) (n : ℕ) where
   comb-more w m t c = comb-resp w (suc m) (λ i. t i ⊕ 𝟘 ⊗ w m i) t (λ i l. ring R (v 0 :+ c0 :* v 1) (v 0) refl (λ j. getD (t i ∷ w m i ∷ []) j 𝟘)) (comb-put w m t 𝟘 c)
 
   pub comb-scale : (w : ℕ → ℕ → A) (m : ℕ) (t : ℕ → A) (a : A) → Comb K n w m t → Comb K n w m (λ i. a ⊗ t i)
-  comb-scale w m t a c = ((λ k. a ⊗ c .0 k), λ i l. sum-cong R m (λ k. a ⊗ c .0 k ⊗ w k i) (λ k. a ⊗ (c .0 k ⊗ w k i)) (λ k lk. massoc a (c .0 k) (w k i))
-      ∙ sum-mul R m a (λ k. c .0 k ⊗ w k i) ∙ ap (λ z. a ⊗ z) (c .1 i l))
+  comb-scale w m t a c = (
+    (λ k. a ⊗ c .0 k),
+    λ i l. sum-cong R m (λ k. a ⊗ c .0 k ⊗ w k i) (λ k. a ⊗ (c .0 k ⊗ w k i)) (λ k lk. massoc a (c .0 k) (w k i))
+        ∙ sum-mul R m a (λ k. c .0 k ⊗ w k i) ∙ ap (λ z. a ⊗ z) (c .1 i l),
+  )
 
   pub comb-same : (B B′ : ℕ → ℕ → A) (s : ℕ) (t : ℕ → A) → ((j : ℕ) → j < s → B′ j ≡ B j) → Comb K n B s t → Comb K n B′ s t
   comb-same B B′ s t e c = (c .0, λ i l. sum-cong R s (λ k. c .0 k ⊗ B′ k i) (λ k. c .0 k ⊗ B k i) (λ k lk. ap (λ b. c .0 k ⊗ b i) (e k lk)) ∙ c .1 i l)

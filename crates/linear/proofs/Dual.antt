@@ -24,9 +24,9 @@ use Rattle.linear.proofs.Solve.{at-comb, zeros, never}
 module _ {A : Type 0} (K : Field A) (n : ℕ) (w y : ℕ → ℕ → A) where
   open Field K using (R)
   open Ring R using (𝟘, 𝟙, _⊕_, _⊗_, neg, zero-l, one-l, mcomm, massoc)
+
   infixl 65 _⊕_
   infixl 70 _⊗_
-
   -- what y k is to w k
   abbrev pub Dual : ℕ → (ℕ → A) → Type 0
   Dual k x = (Comb K n w k (w k) × ((i : ℕ) → i < n → x i ≡ 𝟘)) ⊎ (((j : ℕ) → j < k → dot R n x (w j) ≡ 𝟘) × (dot R n x (w k) ≡ 𝟙))
@@ -55,9 +55,10 @@ module _ {A : Type 0} (K : Field A) (n : ℕ) (w y : ℕ → ℕ → A) where
 
   pub down-start : (m : ℕ) (t c : ℕ → A) → Down m t t c m
   down-start m t c = record {
-      gone = λ j a b. absurd (omega arith);
-      sums = λ i l. ap (λ z. t i ⊕ z) (sum-zero R m (λ j. cond (leb m j) (c j ⊗ w j i) 𝟘) (λ j lj. ap (λ b. cond b (c j ⊗ w j i) 𝟘) (lt-leb m j lj))) ∙ zero-r R (t i);
-      only = λ j a b. absurd (omega arith) }
+    gone = λ j a b. absurd (omega arith);
+    sums = λ i l. ap (λ z. t i ⊕ z) (sum-zero R m (λ j. cond (leb m j) (c j ⊗ w j i) 𝟘) (λ j lj. ap (λ b. cond b (c j ⊗ w j i) 𝟘) (lt-leb m j lj))) ∙ zero-r R (t i);
+    only = λ j a b. absurd (omega arith);
+  }
 
   -- a sum from k on
   split : (m k : ℕ) (f g : ℕ → A) → k < m → ((j : ℕ) → k < j → j < m → f j ≡ g j)
@@ -70,16 +71,17 @@ module _ {A : Type 0} (K : Field A) (n : ℕ) (w y : ℕ → ℕ → A) where
       tests : (j : ℕ) (a b c : Bool) → leb k j ≡ a → eqb j k ≡ b → leb (suc k) j ≡ c → cond a (f j) 𝟘 ≡ cond b 𝟙 𝟘 ⊗ f j ⊕ cond c (g j) 𝟘
           → cond (leb k j) (f j) 𝟘 ≡ unit R k j ⊗ f j ⊕ cond (leb (suc k) j) (g j) 𝟘
       tests j a b c p q r e = ap (λ b. cond b (f j) 𝟘) p ∙ e ∙ sym (ap₂ (λ b c. cond b 𝟙 𝟘 ⊗ f j ⊕ cond c (g j) 𝟘) q r)
+
       each : (j : ℕ) → j < m → cond (leb k j) (f j) 𝟘 ≡ unit R k j ⊗ f j ⊕ cond (leb (suc k) j) (g j) 𝟘
       each j lj = ⊎-elim
           (λ (e : k ≡ j). tests j true true false (le-leb k j (omega arith)) (eq-eqb j k (sym e)) (lt-leb (suc k) j (omega arith))
-              (ring R (v 0) (c1 :* v 0 :+ c0) refl (λ i. f j)))
+          (ring R (v 0) (c1 :* v 0 :+ c0) refl (λ i. f j)))
           (λ c. ⊎-elim
-              (λ (b : k < j). tests j true false true (le-leb k j (omega arith)) (ne-eqb j k (λ q. omega arith)) (le-leb (suc k) j (omega arith))
-                  (h j b lj ∙ ring R (v 0) (c0 :* v 1 :+ v 0) refl (λ i. getD (g j ∷ f j ∷ []) i 𝟘)))
-              (λ (b : j < k). tests j false false false (lt-leb k j b) (ne-eqb j k (λ q. omega arith)) (lt-leb (suc k) j (omega arith))
-                  (ring R c0 (c0 :* v 0 :+ c0) refl (λ i. f j)))
-              (apart k j c))
+          (λ (b : k < j). tests j true false true (le-leb k j (omega arith)) (ne-eqb j k (λ q. omega arith)) (le-leb (suc k) j (omega arith))
+          (h j b lj ∙ ring R (v 0) (c0 :* v 1 :+ v 0) refl (λ i. getD (g j ∷ f j ∷ []) i 𝟘)))
+          (λ (b : j < k). tests j false false false (lt-leb k j b) (ne-eqb j k (λ q. omega arith)) (lt-leb (suc k) j (omega arith))
+          (ring R c0 (c0 :* v 0 :+ c0) refl (λ i. f j)))
+          (apart k j c))
           (same? k j)
 
   pub down-turn : (m k : ℕ) (t₀ t u c d : ℕ → A) (a : A) → Duals m → k < m → Down m t₀ t c (suc k)
@@ -89,21 +91,25 @@ module _ {A : Type 0} (K : Field A) (n : ℕ) (w y : ℕ → ℕ → A) where
     where
       at : (j : ℕ) → dot R n (y j) u ≡ dot R n (y j) t ⊕ neg (a ⊗ dot R n (y j) (w k))
       at j = sum-cong R n (λ i. y j i ⊗ u i) (λ i. y j i ⊗ (t i ⊕ neg (a ⊗ w k i))) (λ i l. ap (λ z. y j i ⊗ z) (hu i l)) ∙ dot-sub-r R n (y j) t (w k) a
+
       gone′ : (j : ℕ) → k ≤ j → j < m → dot R n (y j) u ≡ 𝟘
       gone′ j lo hi = ⊎-elim
           (λ (q : k ≡ j). rw (← q) (at k ∙ ap (λ z. dot R n (y k) t ⊕ neg (z ⊗ dot R n (y k) (w k))) e ∙ own k t (D k lk)))
           (λ (q : k < j). at j ∙ ap₂ (λ p q. p ⊕ neg (a ⊗ q)) (h .gone j q hi) (earlier j k (D j hi) q) ∙ ring R (c0 :- v 0 :* c0) c0 refl (λ i. a))
           (eq-or-lt-of-le lo)
+
       sums′ : (i : ℕ) → i < n → u i ⊕ sum R m (λ j. cond (leb k j) (d j ⊗ w j i) 𝟘) ≡ t₀ i
       sums′ i l = ap₂ (λ p q. p ⊕ q) (hu i l)
-              (split m k (λ j. d j ⊗ w j i) (λ j. c j ⊗ w j i) lk (λ j a b. ap (λ z. z ⊗ w j i) (hd j a b))
-              ∙ ap (λ z. z ⊗ w k i ⊕ sum R m (λ j. cond (leb (suc k) j) (c j ⊗ w j i) 𝟘)) dk)
+          (split m k (λ j. d j ⊗ w j i) (λ j. c j ⊗ w j i) lk (λ j a b. ap (λ z. z ⊗ w j i) (hd j a b))
+          ∙ ap (λ z. z ⊗ w k i ⊕ sum R m (λ j. cond (leb (suc k) j) (c j ⊗ w j i) 𝟘)) dk)
           ∙ ring R (v 0 :- v 1 :* v 2 :+ (v 1 :* v 2 :+ v 3)) (v 0 :+ v 3) refl
-            (λ j. getD (t i ∷ a ∷ w k i ∷ sum R m (λ j. cond (leb (suc k) j) (c j ⊗ w j i) 𝟘) ∷ []) j 𝟘)
+          (λ j. getD (t i ∷ a ∷ w k i ∷ sum R m (λ j. cond (leb (suc k) j) (c j ⊗ w j i) 𝟘) ∷ []) j 𝟘)
           ∙ h .sums i l
+
       zero-own : Comb K n w k (w k) → Dual k (y k) → dot R n (y k) t ≡ 𝟘
       zero-own g (inl d) = null (y k) t (d .1)
       zero-own g (inr d) = absurd (never K n w k (w k) g (y k, d .0, d .1))
+
       only′ : (j : ℕ) → k ≤ j → j < m → Comb K n w j (w j) → d j ≡ 𝟘
       only′ j lo hi g = ⊎-elim
           (λ (q : k ≡ j). ap d (sym q) ∙ dk ∙ e ∙ zero-own (rw q g) (D k lk))
@@ -126,13 +132,15 @@ module _ {A : Type 0} (K : Field A) (n : ℕ) (w y : ℕ → ℕ → A) where
   pub up-turn : (m k : ℕ) (t u x : ℕ → A) (a : A) → Duals m → k < m → ((j : ℕ) → j < m → dot R n (y j) t ≡ 𝟘) → Up t u k
       → a ≡ dot R n (w k) u → ((i : ℕ) → i < n → x i ≡ u i ⊕ neg (a ⊗ y k i)) → Up t x (suc k)
   up-turn m k t u x a D lk g h e hx = record {
-      kills = below-suc (λ j. dot R n x (w j) ≡ 𝟘) k
-          (λ j l. at (w j) ∙ ap₂ (λ p q. p ⊕ neg (a ⊗ q)) (h .kills j l) (earlier k j (D k lk) l) ∙ ring R (c0 :- v 0 :* c0) c0 refl (λ i. a))
-          (at (w k) ∙ new (D k lk));
-      one = at t ∙ ap₂ (λ p q. p ⊕ neg (a ⊗ q)) (h .one) (g k lk) ∙ ring R (c1 :- v 0 :* c0) c1 refl (λ i. a) }
+    kills = below-suc (λ j. dot R n x (w j) ≡ 𝟘) k
+        (λ j l. at (w j) ∙ ap₂ (λ p q. p ⊕ neg (a ⊗ q)) (h .kills j l) (earlier k j (D k lk) l) ∙ ring R (c0 :- v 0 :* c0) c0 refl (λ i. a))
+        (at (w k) ∙ new (D k lk));
+    one = at t ∙ ap₂ (λ p q. p ⊕ neg (a ⊗ q)) (h .one) (g k lk) ∙ ring R (c1 :- v 0 :* c0) c1 refl (λ i. a);
+  }
     where
       at : (s : ℕ → A) → dot R n x s ≡ dot R n u s ⊕ neg (a ⊗ dot R n (y k) s)
       at s = sum-cong R n (λ i. x i ⊗ s i) (λ i. (u i ⊕ neg (a ⊗ y k i)) ⊗ s i) (λ i l. ap (λ z. z ⊗ s i) (hx i l)) ∙ dot-sub R n u (y k) s a
+
       new : Dual k (y k) → dot R n u (w k) ⊕ neg (a ⊗ dot R n (y k) (w k)) ≡ 𝟘
       new (inl d) = ap₂ (λ p q. p ⊕ neg (a ⊗ q)) (at-comb K n w k (w k) u (d .0) ∙ zeros K n w k (d .0 .0) u (h .kills)) (null (y k) (w k) (d .1))
           ∙ ring R (c0 :- v 0 :* c0) c0 refl (λ i. a)
@@ -142,7 +150,7 @@ module _ {A : Type 0} (K : Field A) (n : ℕ) (w y : ℕ → ℕ → A) where
   pub up-end : (m : ℕ) (t₀ t c u : ℕ → A) → Down m t₀ t c zero → Up t u m → dot R n u t₀ ≡ 𝟙
   up-end m t₀ t c u h g =
       sum-cong R n (λ i. u i ⊗ t₀ i) (λ i. u i ⊗ (t i ⊕ neg (neg 𝟙 ⊗ s i))) (λ i l. ap (λ z. u i ⊗ z)
-          (sym (down-sums m t₀ t c h i l) ∙ ring R (v 0 :+ v 1) (v 0 :- ng c1 :* v 1) refl (λ j. getD (t i ∷ s i ∷ []) j 𝟘)))
+      (sym (down-sums m t₀ t c h i l) ∙ ring R (v 0 :+ v 1) (v 0 :- ng c1 :* v 1) refl (λ j. getD (t i ∷ s i ∷ []) j 𝟘)))
       ∙ dot-sub-r R n u t s (neg 𝟙)
       ∙ ap₂ (λ p q. p ⊕ neg (neg 𝟙 ⊗ q)) (g .one) (dot-comb R n m u c w ∙ zeros K n w m c u (g .kills))
       ∙ ring R (c1 :- ng c1 :* c0) c1 refl (λ i. 𝟘)
@@ -153,12 +161,14 @@ module _ {A : Type 0} (K : Field A) (n : ℕ) (w y : ℕ → ℕ → A) where
   -- a functional of one place
   pub up-start : (t u : ℕ → A) (c : ℕ) (b : A) → c < n → u c ≡ b → ((i : ℕ) → i < n → (i ≡ c → ⊥) → u i ≡ 𝟘) → b ⊗ t c ≡ 𝟙 → Up t u zero
   up-start t u c b lc at off one = record {
-      kills = λ j l. absurd (not-suc-le-zero l);
-      one = sum-cong R n (λ i. u i ⊗ t i) (λ i. unit R c i ⊗ (b ⊗ t i)) each ∙ sum-unit R n c (λ i. b ⊗ t i) lc ∙ one }
+    kills = λ j l. absurd (not-suc-le-zero l);
+    one = sum-cong R n (λ i. u i ⊗ t i) (λ i. unit R c i ⊗ (b ⊗ t i)) each ∙ sum-unit R n c (λ i. b ⊗ t i) lc ∙ one;
+  }
     where
       go : (i : ℕ) → i < n → (q : Bool) → eqb i c ≡ q → (q ≡ true → u i ≡ b) → (q ≡ false → u i ≡ 𝟘) → u i ⊗ t i ≡ unit R c i ⊗ (b ⊗ t i)
       go i l true q f g = ap (λ z. z ⊗ t i) (f refl) ∙ sym (one-l (b ⊗ t i)) ∙ ap (λ x. cond x 𝟙 𝟘 ⊗ (b ⊗ t i)) (sym q)
       go i l false q f g = ap (λ z. z ⊗ t i) (g refl) ∙ zero-mul R (t i) ∙ sym (zero-mul R (b ⊗ t i)) ∙ ap (λ x. cond x 𝟙 𝟘 ⊗ (b ⊗ t i)) (sym q)
+
       each : (i : ℕ) → i < n → u i ⊗ t i ≡ unit R c i ⊗ (b ⊗ t i)
       each i l = ⊎-elim
           (λ (q : i ≡ c). go i l true (eq-eqb i c q) (λ z. ap u q ∙ at) (λ z. absurd (true≢false z)))
@@ -171,15 +181,21 @@ module _ {A : Type 0} (K : Field A) (n : ℕ) (w y : ℕ → ℕ → A) where
   stuck (suc m) t D g c i l = stuck m t (λ k lk. D k (omega arith)) (λ j lj. g j (omega arith)) (fewer (D m (omega arith))) i l
     where
       fewer : Dual m (y m) → Comb K n w m t
-      fewer (inl d) = ((λ k. c .0 k ⊕ c .0 m ⊗ d .0 .0 k), λ i l.
-          sum-cong R m (λ k. (c .0 k ⊕ c .0 m ⊗ d .0 .0 k) ⊗ w k i) (λ k. c .0 k ⊗ w k i ⊕ c .0 m ⊗ (d .0 .0 k ⊗ w k i))
-              (λ k lk. ring R ((v 0 :+ v 1 :* v 2) :* v 3) (v 0 :* v 3 :+ v 1 :* (v 2 :* v 3)) refl (λ j. getD (c .0 k ∷ c .0 m ∷ d .0 .0 k ∷ w k i ∷ []) j 𝟘))
-          ∙ sum-add R m (λ k. c .0 k ⊗ w k i) (λ k. c .0 m ⊗ (d .0 .0 k ⊗ w k i))
-          ∙ ap (λ z. sum R m (λ k. c .0 k ⊗ w k i) ⊕ z) (sum-mul R m (c .0 m) (λ k. d .0 .0 k ⊗ w k i) ∙ ap (λ z. c .0 m ⊗ z) (d .0 .1 i l))
-          ∙ c .1 i l)
-      fewer (inr d) = (c .0, λ i l.
-          ring R (v 0) (v 0 :+ c0 :* v 1) refl (λ j. getD (sum R m (λ k. c .0 k ⊗ w k i) ∷ w m i ∷ []) j 𝟘)
-          ∙ ap (λ z. sum R m (λ k. c .0 k ⊗ w k i) ⊕ z ⊗ w m i) (sym top) ∙ c .1 i l)
+      fewer (inl d) = (
+        (λ k. c .0 k ⊕ c .0 m ⊗ d .0 .0 k),
+        λ i l.
+            sum-cong R m (λ k. (c .0 k ⊕ c .0 m ⊗ d .0 .0 k) ⊗ w k i) (λ k. c .0 k ⊗ w k i ⊕ c .0 m ⊗ (d .0 .0 k ⊗ w k i))
+            (λ k lk. ring R ((v 0 :+ v 1 :* v 2) :* v 3) (v 0 :* v 3 :+ v 1 :* (v 2 :* v 3)) refl (λ j. getD (c .0 k ∷ c .0 m ∷ d .0 .0 k ∷ w k i ∷ []) j 𝟘))
+            ∙ sum-add R m (λ k. c .0 k ⊗ w k i) (λ k. c .0 m ⊗ (d .0 .0 k ⊗ w k i))
+            ∙ ap (λ z. sum R m (λ k. c .0 k ⊗ w k i) ⊕ z) (sum-mul R m (c .0 m) (λ k. d .0 .0 k ⊗ w k i) ∙ ap (λ z. c .0 m ⊗ z) (d .0 .1 i l))
+            ∙ c .1 i l,
+      )
+      fewer (inr d) = (
+        c .0,
+        λ i l.
+            ring R (v 0) (v 0 :+ c0 :* v 1) refl (λ j. getD (sum R m (λ k. c .0 k ⊗ w k i) ∷ w m i ∷ []) j 𝟘)
+            ∙ ap (λ z. sum R m (λ k. c .0 k ⊗ w k i) ⊕ z ⊗ w m i) (sym top) ∙ c .1 i l,
+      )
         where
           top : c .0 m ≡ 𝟘
           top = ring R (v 0) (c0 :+ v 0 :* c1) refl (λ i. c .0 m)
@@ -188,12 +204,14 @@ module _ {A : Type 0} (K : Field A) (n : ℕ) (w y : ℕ → ℕ → A) where
 
   -- so where the rest is not 0 the target is no combination
   pub refused : (m : ℕ) (t₀ t c : ℕ → A) → Duals m → Down m t₀ t c zero → Comb K n w m t₀ → (i : ℕ) → i < n → t i ≡ 𝟘
-  refused m t₀ t c D h g = stuck m t D (λ j l. h .gone j (omega arith) l)
-      ((λ k. g .0 k ⊕ neg (𝟙 ⊗ c k)), λ i l.
-          sum-cong R m (λ k. (g .0 k ⊕ neg (𝟙 ⊗ c k)) ⊗ w k i) (λ k. (g .0 k ⊕ neg (𝟙 ⊗ c k)) ⊗ w k i) (λ k lk. refl)
-          ∙ dot-sub R m (g .0) c (λ k. w k i) 𝟙
-          ∙ ap (λ z. z ⊕ neg (𝟙 ⊗ sum R m (λ k. c k ⊗ w k i))) (g .1 i l ∙ sym (down-sums m t₀ t c h i l))
-          ∙ ring R ((v 0 :+ v 1) :- c1 :* v 1) (v 0) refl (λ j. getD (t i ∷ sum R m (λ k. c k ⊗ w k i) ∷ []) j 𝟘))
+  refused m t₀ t c D h g = stuck m t D (λ j l. h .gone j (omega arith) l) (
+    (λ k. g .0 k ⊕ neg (𝟙 ⊗ c k)),
+    λ i l.
+        sum-cong R m (λ k. (g .0 k ⊕ neg (𝟙 ⊗ c k)) ⊗ w k i) (λ k. (g .0 k ⊕ neg (𝟙 ⊗ c k)) ⊗ w k i) (λ k lk. refl)
+        ∙ dot-sub R m (g .0) c (λ k. w k i) 𝟙
+        ∙ ap (λ z. z ⊕ neg (𝟙 ⊗ sum R m (λ k. c k ⊗ w k i))) (g .1 i l ∙ sym (down-sums m t₀ t c h i l))
+        ∙ ring R ((v 0 :+ v 1) :- c1 :* v 1) (v 0) refl (λ j. getD (t i ∷ sum R m (λ k. c k ⊗ w k i) ∷ []) j 𝟘),
+  )
 
   -- the next functional: of a vector that is a combination, or of one that is not
   pub next-none : (k : ℕ) (t c x : ℕ → A) → Down k (w k) t c zero → ((i : ℕ) → i < n → t i ≡ 𝟘) → ((i : ℕ) → i < n → x i ≡ 𝟘) → Dual k x

@@ -21,8 +21,8 @@ count-cong (suc n) b c h = ap₂ (λ (x : ℕ) y. x + cond y 1 0) (count-cong n 
 module _ {A : Type 0} (K : Field A) (n : ℕ) (w : ℕ → ℕ → A) where
   open Field K using (R)
   open Ring R using (𝟘, 𝟙, _⊗_)
-  infixl 70 _⊗_
 
+  infixl 70 _⊗_
   abbrev pub isSep : (m : ℕ) (t : ℕ → A) → Answer K n w m t → Bool
   isSep m t (inl c) = false
   isSep m t (inr y) = true

@@ -24,8 +24,10 @@ module _ (p : ℕ) (H : Prime p) (n : ℕ) (N : ℕ → ℕ → ℕ) where
       (Field.answer (residues p H) n (W p H n N) m (λ i. res p H (t i)))
 
   pub functional-none : (m : ℕ) (t y : ℕ → ℕ) → Functional p n N m t y → NoCombination p n N m t
-  functional-none m t y f = record { none = λ c.
-      Field.never-both (residues p H) n (W p H n N) m (λ i. res p H (t i)) (λ i. res p H (y i)) (comb-up p H n N m t c) (functional-up p H n N m t y f) }
+  functional-none m t y f = record {
+    none = λ c.
+        Field.never-both (residues p H) n (W p H n N) m (λ i. res p H (t i)) (λ i. res p H (y i)) (comb-up p H n N m t c) (functional-up p H n N m t y f);
+  }
 
   -- The verdict alone, for any target.
   pub found-or-none : (m : ℕ) (t : ℕ → ℕ) → ((c : ℕ → ℕ) × Coefficients p n N m t c) ⊎ NoCombination p n N m t
@@ -37,7 +39,7 @@ module _ (p : ℕ) (H : Prime p) (n : ℕ) (N : ℕ → ℕ → ℕ) where
   pub coefficients-unique : (m : ℕ) (t c d : ℕ → ℕ) → Coefficients p n N m t c → Coefficients p n N m t d → (k : ℕ) → k < m → c k ≡ d k
   coefficients-unique m t c d o q k l = res-inj p H (c k) (d k) (o .below k l) (q .below k l)
       (Field.coeffs-unique (residues p H) n (W p H n N) m (λ i. res p H (t i)) (λ k. res p H (c k)) (λ k. res p H (d k))
-        (coeffs-up p H n N m t c o) (coeffs-up p H n N m t d q) k l)
+      (coeffs-up p H n N m t c o) (coeffs-up p H n N m t d q) k l)
 
   -- The marks of the rule are unique, so their number is.
   pub kept-unique : (b c : ℕ → Bool) (m : ℕ) → KeptRule p n N b m → KeptRule p n N c m → (k : ℕ) → k < m → b k ≡ c k
@@ -53,8 +55,11 @@ module _ (p : ℕ) (H : Prime p) (n : ℕ) (N : ℕ → ℕ → ℕ) where
 
   -- The rule's marks over numbers, for whoever has counted the kept vectors of the field.
   pub kept-count : (m s : ℕ) → count m (kept (residues p H) n (W p H n N)) ≡ s → KeptCount p n N m s
-  kept-count m s e = record { kept = kept (residues p H) n (W p H n N);
-      rule = rule-down p H n N (kept (residues p H) n (W p H n N)) m (keeps (residues p H) n (W p H n N) m); number = e }
+  kept-count m s e = record {
+    kept = kept (residues p H) n (W p H n N);
+    rule = rule-down p H n N (kept (residues p H) n (W p H n N)) m (keeps (residues p H) n (W p H n N) m);
+    number = e;
+  }
 
 -- Two tables that agree where they are read.
 module _ (p n m : ℕ) (N M : ℕ → ℕ → ℕ) (same : (k i : ℕ) → k < m → i < n → N k i ≡ M k i) where
@@ -69,18 +74,25 @@ module _ (p n m : ℕ) (N M : ℕ → ℕ → ℕ) (same : (k i : ℕ) → k < m
 
 pub none-same : (p n m : ℕ) (N M : ℕ → ℕ → ℕ) → ((k i : ℕ) → k < m → i < n → N k i ≡ M k i) → (t u : ℕ → ℕ) → ((i : ℕ) → i < n → t i ≡ u i)
     → NoCombination p n N m t → NoCombination p n M m u
-none-same p n m N M same t u ht h = record { none = λ c. h .none (c .0,
-    adds-same p n m M N (λ k i a b. sym (same k i a b)) (c .0) (c .0) u t m (omega arith) (λ j l. refl) (λ i l. sym (ht i l)) (c .1)) }
+none-same p n m N M same t u ht h = record {
+  none = λ c. h .none (
+    c .0,
+    adds-same p n m M N (λ k i a b. sym (same k i a b)) (c .0) (c .0) u t m (omega arith) (λ j l. refl) (λ i l. sym (ht i l)) (c .1),
+  );
+}
 
 pub rule-same : (p n m : ℕ) (N M : ℕ → ℕ → ℕ) → ((k i : ℕ) → k < m → i < n → N k i ≡ M k i) → (b : ℕ → Bool) → KeptRule p n N b m → KeptRule p n M b m
-rule-same p n m N M same b h k l = ((λ q c. h k l .0 q (comb-of-same p n m M N (λ k i x y. sym (same k i x y)) b k l c)),
-    λ f. h k l .1 (λ c. f (comb-of-same p n m N M same b k l c)))
+rule-same p n m N M same b h k l = (
+  (λ q c. h k l .0 q (comb-of-same p n m M N (λ k i x y. sym (same k i x y)) b k l c)),
+  λ f. h k l .1 (λ c. f (comb-of-same p n m N M same b k l c)),
+)
 
 pub coefficients-same : (p n m : ℕ) (N M : ℕ → ℕ → ℕ) → ((k i : ℕ) → k < m → i < n → N k i ≡ M k i) → (t u c d : ℕ → ℕ)
     → ((i : ℕ) → i < n → t i ≡ u i) → ((k : ℕ) → k < m → c k ≡ d k) → Coefficients p n N m t c → Coefficients p n M m u d
 coefficients-same p n m N M same t u c d ht hc o = record {
-    kept = o .kept;
-    rule = rule-same p n m N M same (o .kept) (o .rule);
-    below = λ k l. subst (λ x. x < p) (hc k l) (o .below k l);
-    only = λ k l q. sym (hc k l) ∙ o .only k l q;
-    gives = adds-same p n m N M same c d t u m (omega arith) hc ht (o .gives) }
+  kept = o .kept;
+  rule = rule-same p n m N M same (o .kept) (o .rule);
+  below = λ k l. subst (λ x. x < p) (hc k l) (o .below k l);
+  only = λ k l q. sym (hc k l) ∙ o .only k l q;
+  gives = adds-same p n m N M same c d t u m (omega arith) hc ht (o .gives);
+}

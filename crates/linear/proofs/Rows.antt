@@ -62,19 +62,23 @@ module _ (p : ℕ) (H : Prime p) (d f : ℕ) (E : ℕ → ℕ → ℕ) (chosen :
   others = omega arith
 
   pub witness-coefficients : (z : ℕ → ℕ) → Witness p d (suc f) E chosen z → Coefficients p d columns f (minusFirst p E chosen) (λ j. z (suc j))
-  witness-coefficients z c = record { kept = c .kept;
-      rule = subst (λ (m : ℕ). KeptRule p d columns (c .kept) m) others (c .rule);
-      below = λ j l. c .below (suc j) (omega arith);
-      only = subst (λ (m : ℕ). (j : ℕ) → j < m → c .kept j ≡ false → z (suc j) ≡ 0) others (c .only);
-      gives = columns-of z (one-mod (z 0) (c .first)) (c .kills) }
+  witness-coefficients z c = record {
+    kept = c .kept;
+    rule = subst (λ (m : ℕ). KeptRule p d columns (c .kept) m) others (c .rule);
+    below = λ j l. c .below (suc j) (omega arith);
+    only = subst (λ (m : ℕ). (j : ℕ) → j < m → c .kept j ≡ false → z (suc j) ≡ 0) others (c .only);
+    gives = columns-of z (one-mod (z 0) (c .first)) (c .kills);
+  }
 
   pub coefficients-witness : (z : ℕ → ℕ) → z 0 ≡ 1 → Coefficients p d columns f (minusFirst p E chosen) (λ j. z (suc j)) → Witness p d (suc f) E chosen z
-  coefficients-witness z e c = record { kept = c .kept;
-      rule = subst⁻¹ (λ (m : ℕ). KeptRule p d columns (c .kept) m) others (c .rule);
-      first = e;
-      only = subst⁻¹ (λ (m : ℕ). (j : ℕ) → j < m → c .kept j ≡ false → z (suc j) ≡ 0) others (c .only);
-      below = small;
-      kills = kills-of z (one-mod (z 0) e) (c .gives) }
+  coefficients-witness z e c = record {
+    kept = c .kept;
+    rule = subst⁻¹ (λ (m : ℕ). KeptRule p d columns (c .kept) m) others (c .rule);
+    first = e;
+    only = subst⁻¹ (λ (m : ℕ). (j : ℕ) → j < m → c .kept j ≡ false → z (suc j) ≡ 0) others (c .only);
+    below = small;
+    kills = kills-of z (one-mod (z 0) e) (c .gives);
+  }
     where
       small : (j : ℕ) → j < suc f → z j < p
       small zero l = omega (arith, H .two, e)
@@ -82,8 +86,10 @@ module _ (p : ℕ) (H : Prime p) (d f : ℕ) (E : ℕ → ℕ → ℕ) (chosen :
 
   -- A witness is a functional that is 0 on each row and 1 on the target.
   pub witness-functional : (z : ℕ → ℕ) → Witness p d (suc f) E chosen z → Functional p (suc f) rows d target z
-  witness-functional z c = record { kills = c .kills;
-      one = ap (λ (x : ℕ). x % p) (times-target f z) ∙ one-mod (z 0) (c .first) }
+  witness-functional z c = record {
+    kills = c .kills;
+    one = ap (λ (x : ℕ). x % p) (times-target f z) ∙ one-mod (z 0) (c .first);
+  }
 
   pub open-not-closed : (r z : ℕ → ℕ) → OpeningVector p d (suc f) E chosen r → Witness p d (suc f) E chosen z → ⊥
   open-not-closed r z o c = functional-none p H (suc f) rows d target z (witness-functional z c) .none (r, o .gives)
@@ -105,8 +111,8 @@ module _ (p : ℕ) (H : Prime p) (d f : ℕ) (E : ℕ → ℕ → ℕ) (chosen :
   open-or-closed = ⊎-elim
       (λ r. inl r)
       (λ y. ⊎-elim
-          (λ c. inr (first-one (c .0), coefficients-witness (first-one (c .0)) refl (c .1)))
-          (λ u. absurd (functional-none p H d columns f (minusFirst p E chosen) (u .0) (u .1) .none
-              ((λ j. y .0 (suc j)), columns-of (y .0) (ap (λ (x : ℕ). x % p) (sym (times-target f (y .0))) ∙ y .1 .one) (y .1 .kills))))
-          (Question.answer p H d columns f (minusFirst p E chosen)))
+      (λ c. inr (first-one (c .0), coefficients-witness (first-one (c .0)) refl (c .1)))
+      (λ u. absurd (functional-none p H d columns f (minusFirst p E chosen) (u .0) (u .1) .none
+      ((λ j. y .0 (suc j)), columns-of (y .0) (ap (λ (x : ℕ). x % p) (sym (times-target f (y .0))) ∙ y .1 .one) (y .1 .kills))))
+      (Question.answer p H d columns f (minusFirst p E chosen)))
       (Question.answer p H (suc f) rows d target)

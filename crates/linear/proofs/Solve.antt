@@ -21,9 +21,9 @@ use Rattle.linear.specs.Space.{Comb}
 module _ {A : Type 0} (K : Field A) (n : ℕ) (w : ℕ → ℕ → A) where
   open Field K using (R)
   open Ring R using (𝟘, 𝟙, _⊕_, _⊗_, neg, zero-l, one-l, mcomm, massoc)
+
   infixl 65 _⊕_
   infixl 70 _⊗_
-
   -- 0 at each vector that is a combination of all those before it. For the marks of the kept rule this is 0 at each vector that is not
   -- kept (proofs/Kept.antt), and it needs no marks.
   abbrev pub Canon : ℕ → (ℕ → A) → Type 0
@@ -50,9 +50,9 @@ module _ {A : Type 0} (K : Field A) (n : ℕ) (w : ℕ → ℕ → A) where
   place zero t = inl (λ i l. absurd (not-suc-le-zero l))
   place (suc m) t = ⊎-elim
       (λ h. ⊎-elim
-          (λ e. inl (below-suc (λ i. t i ≡ 𝟘) m h e))
-          (λ u. inr (m, omega arith, u .0, u .1))
-          (K .inverse? (t m)))
+      (λ e. inl (below-suc (λ i. t i ≡ 𝟘) m h e))
+      (λ u. inr (m, omega arith, u .0, u .1))
+      (K .inverse? (t m)))
       (λ u. inr (u .0, omega arith, u .2, u .3))
       (place m t)
 
@@ -72,30 +72,41 @@ module _ {A : Type 0} (K : Field A) (n : ℕ) (w : ℕ → ℕ → A) where
   resp m t u e (inr y) = inr (y .0, y .1, sum-cong R n (λ i. y .0 i ⊗ u i) (λ i. y .0 i ⊗ t i) (λ i l. ap (λ z. y .0 i ⊗ z) (sym (e i l))) ∙ y .2)
 
   abbrev pub memo-sep : (m : ℕ) (t : ℕ → A) → Sep m t → Sep m t
-  memo-sep m t y = (memo (y .0), (λ k l. sum-cong R n (λ i. memo (y .0) i ⊗ w k i) (λ i. y .0 i ⊗ w k i) (λ i l. ap (λ z. z ⊗ w k i) (memo-at (y .0) i l)) ∙ y .1 k l),
-      sum-cong R n (λ i. memo (y .0) i ⊗ t i) (λ i. y .0 i ⊗ t i) (λ i l. ap (λ z. z ⊗ t i) (memo-at (y .0) i l)) ∙ y .2)
+  memo-sep m t y = (
+    memo (y .0),
+    (λ k l. sum-cong R n (λ i. memo (y .0) i ⊗ w k i) (λ i. y .0 i ⊗ w k i) (λ i l. ap (λ z. z ⊗ w k i) (memo-at (y .0) i l)) ∙ y .1 k l),
+    sum-cong R n (λ i. memo (y .0) i ⊗ t i) (λ i. y .0 i ⊗ t i) (λ i l. ap (λ z. z ⊗ t i) (memo-at (y .0) i l)) ∙ y .2,
+  )
 
   abbrev pub base : (t : ℕ → A) → Answer zero t
   base t = ⊎-elim
       (λ h. inl (((λ k. 𝟘), λ i l. sym (h i l)), λ k l. absurd (not-suc-le-zero l)))
-      (λ u. inr ((λ i. unit R (u .0) i ⊗ u .2), (λ k l. absurd (not-suc-le-zero l)),
-          sum-cong R n (λ i. unit R (u .0) i ⊗ u .2 ⊗ t i) (λ i. unit R (u .0) i ⊗ (u .2 ⊗ t i)) (λ i l. massoc (unit R (u .0) i) (u .2) (t i))
-          ∙ sum-unit R n (u .0) (λ i. u .2 ⊗ t i) (u .1) ∙ u .3))
+      (λ u. inr (
+        (λ i. unit R (u .0) i ⊗ u .2),
+        (λ k l. absurd (not-suc-le-zero l)),
+        sum-cong R n (λ i. unit R (u .0) i ⊗ u .2 ⊗ t i) (λ i. unit R (u .0) i ⊗ (u .2 ⊗ t i)) (λ i l. massoc (unit R (u .0) i) (u .2) (t i))
+            ∙ sum-unit R n (u .0) (λ i. u .2 ⊗ t i) (u .1) ∙ u .3,
+      ))
       (place n t)
 
   -- the last vector is dependent: it gets 0
   abbrev pub skip : (m : ℕ) (t : ℕ → A) → Comb K n w m (w m) → Answer m t → Answer (suc m) t
-  skip m t d (inl (c, s)) = inl
-      ((put R m (c .0) 𝟘, λ i l. sum-put R m (c .0) 𝟘 (λ k. w k i) ∙ ap₂ _⊕_ (c .1 i l) (zero-mul R (w m i)) ∙ zero-r R (t i)),
-      below-suc (λ k. Comb K n w k (w k) → put R m (c .0) 𝟘 k ≡ 𝟘) m (λ k l e. put-lt R m (c .0) 𝟘 k l ∙ s k l e) (λ e. put-at R m (c .0) 𝟘))
+  skip m t d (inl (c, s)) = inl (
+    (put R m (c .0) 𝟘, λ i l. sum-put R m (c .0) 𝟘 (λ k. w k i) ∙ ap₂ _⊕_ (c .1 i l) (zero-mul R (w m i)) ∙ zero-r R (t i)),
+    below-suc (λ k. Comb K n w k (w k) → put R m (c .0) 𝟘 k ≡ 𝟘) m (λ k l e. put-lt R m (c .0) 𝟘 k l ∙ s k l e) (λ e. put-at R m (c .0) 𝟘),
+  )
   skip m t d (inr y) = inr (y .0, below-suc (λ k. dot R n (y .0) (w k) ≡ 𝟘) m (y .1) (at-comb m (w m) (y .0) d ∙ zeros m (d .0) (y .0) (y .1)), y .2)
 
   -- the last vector is kept: y is 0 at those before it and 1 at it
   abbrev pub take : (m : ℕ) (t : ℕ → A) (y : Sep m (w m)) → Answer m (λ i. t i ⊕ neg (dot R n (y .0) t ⊗ w m i)) → Answer (suc m) t
-  take m t y (inl (c, s)) = inl
-      ((put R m (c .0) a, λ i l. sum-put R m (c .0) a (λ k. w k i) ∙ ap (λ z. z ⊕ a ⊗ w m i) (c .1 i l)
-          ∙ ring R (v 0 :- v 1 :* v 2 :+ v 1 :* v 2) (v 0) refl (λ j. getD (t i ∷ a ∷ w m i ∷ []) j 𝟘)),
-      below-suc (λ k. Comb K n w k (w k) → put R m (c .0) a k ≡ 𝟘) m (λ k l e. put-lt R m (c .0) a k l ∙ s k l e) (λ e. absurd (never m (w m) e y)))
+  take m t y (inl (c, s)) = inl (
+    (
+      put R m (c .0) a,
+      λ i l. sum-put R m (c .0) a (λ k. w k i) ∙ ap (λ z. z ⊕ a ⊗ w m i) (c .1 i l)
+          ∙ ring R (v 0 :- v 1 :* v 2 :+ v 1 :* v 2) (v 0) refl (λ j. getD (t i ∷ a ∷ w m i ∷ []) j 𝟘),
+    ),
+    below-suc (λ k. Comb K n w k (w k) → put R m (c .0) a k ≡ 𝟘) m (λ k l e. put-lt R m (c .0) a k l ∙ s k l e) (λ e. absurd (never m (w m) e y)),
+  )
     where
       a : A
       a = dot R n (y .0) t
@@ -103,12 +114,16 @@ module _ {A : Type 0} (K : Field A) (n : ℕ) (w : ℕ → ℕ → A) where
     where
       b : A
       b = dot R n (u .0) (w m)
+
       x : ℕ → A
       x i = u .0 i ⊕ neg (b ⊗ y .0 i)
+
       old : (k : ℕ) → k < m → dot R n x (w k) ≡ 𝟘
       old k l = dot-sub R n (u .0) (y .0) (w k) b ∙ ap₂ (λ z q. z ⊕ neg (b ⊗ q)) (u .1 k l) (y .1 k l) ∙ ring R (c0 :- v 0 :* c0) c0 refl (λ i. b)
+
       new : dot R n x (w m) ≡ 𝟘
       new = dot-sub R n (u .0) (y .0) (w m) b ∙ ap (λ q. b ⊕ neg (b ⊗ q)) (y .2) ∙ ring R (v 0 :- v 0 :* c1) c0 refl (λ i. b)
+
       one : dot R n x t ≡ 𝟙
       one = dot-sub R n (u .0) (y .0) t b ∙ ap (λ z. dot R n (u .0) t ⊕ neg z) (mcomm b (dot R n (y .0) t))
           ∙ sym (dot-sub-r R n (u .0) t (w m) (dot R n (y .0) t)) ∙ u .2
@@ -123,7 +138,7 @@ module _ {A : Type 0} (K : Field A) (n : ℕ) (w : ℕ → ℕ → A) where
   query (suc m) s t = ⊎-elim
       (λ d. skip m t (d .0) (query m (s .0) t))
       (λ y. let a = dot R n (y .0) t in let u = memo (λ i. t i ⊕ neg (a ⊗ w m i)) in
-          fix (take m t y (resp m u (λ i. t i ⊕ neg (a ⊗ w m i)) (memo-at (λ i. t i ⊕ neg (a ⊗ w m i))) (query m (s .0) u))))
+      fix (take m t y (resp m u (λ i. t i ⊕ neg (a ⊗ w m i)) (memo-at (λ i. t i ⊕ neg (a ⊗ w m i))) (query m (s .0) u))))
       (s .1)
     where
       fix : Answer (suc m) t → Answer (suc m) t
@@ -143,8 +158,11 @@ module _ {A : Type 0} (K : Field A) (n : ℕ) (w : ℕ → ℕ → A) where
 
   -- the rest, where the last coefficient is a
   rest : (m : ℕ) (t : ℕ → A) (a : A) (c : Comb K n w (suc m) t) → c .0 m ≡ a → Comb K n w m (λ i. t i ⊕ neg (a ⊗ w m i))
-  rest m t a c e = (c .0, λ i l. ring R (v 0) (v 0 :+ v 1 :- v 1) refl (λ j. getD (sum R m (λ k. c .0 k ⊗ w k i) ∷ c .0 m ⊗ w m i ∷ []) j 𝟘)
-      ∙ ap₂ (λ p q. p ⊕ neg (q ⊗ w m i)) (c .1 i l) e)
+  rest m t a c e = (
+    c .0,
+    λ i l. ring R (v 0) (v 0 :+ v 1 :- v 1) refl (λ j. getD (sum R m (λ k. c .0 k ⊗ w k i) ∷ c .0 m ⊗ w m i ∷ []) j 𝟘)
+        ∙ ap₂ (λ p q. p ⊕ neg (q ⊗ w m i)) (c .1 i l) e,
+  )
 
   pub unique : (m : ℕ) (t : ℕ → A) (c d : Comb K n w m t) → Canon m (c .0) → Canon m (d .0) → (k : ℕ) → k < m → c .0 k ≡ d .0 k
   unfolding rest

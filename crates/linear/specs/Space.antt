@@ -11,8 +11,8 @@ use Rattle.algebra.specs.Sum.{sum, dot}
 module _ {A : Type 0} (K : Field A) (n : ℕ) (w : ℕ → ℕ → A) where
   open Field K using (R)
   open Ring R using (𝟘, 𝟙, _⊗_)
-  infixl 70 _⊗_
 
+  infixl 70 _⊗_
   -- The first m vectors, weighted by c, add up to t.
   abbrev pub AddUp : ℕ → (ℕ → A) → (ℕ → A) → Type 0
   AddUp m c t = (i : ℕ) → i < n → sum R m (λ k. c k ⊗ w k i) ≡ t i
