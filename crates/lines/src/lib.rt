@@ -21,7 +21,15 @@ fn term(p: u32, x: u32, y: u32) -> u64
 }
 
 // a and the first s factors of v times place i of the first s lines.
-pub fn col_dot(p: u32, inv: u64, a: u32, v: &[u32; 27], t: &[[u32; 27]; 12], s: usize, i: usize) -> u32
+pub fn col_dot(
+    p: u32,
+    inv: u64,
+    a: u32,
+    v: &[u32; 27],
+    t: &[[u32; 27]; 12],
+    s: usize,
+    i: usize,
+) -> u32
     requires { ⌜ (0 < p) × (s ≤ 12) × (i < 24) ⌝ }
     requires { ⌜ Ratio p inv ⌝ }
     requires { ⌜ Low p (now v) ⌝ }
@@ -156,7 +164,15 @@ pub fn zeros() -> [u32; 27]
 }
 
 // Row k as a line: the first s lines taken off, and scaled so that its first place that is not 0 becomes 1.
-pub fn line(p: u32, inv: u64, e: usize, k: usize, s: usize, row: [u32; 27], t: &[[u32; 27]; 12]) -> [u32; 27]
+pub fn line(
+    p: u32,
+    inv: u64,
+    e: usize,
+    k: usize,
+    s: usize,
+    row: [u32; 27],
+    t: &[[u32; 27]; 12],
+) -> [u32; 27]
     requires { ⌜ Prime p ⌝ }
     requires { ⌜ (e ≤ 12) × (k < 65536) × (s ≤ 12) ⌝ }
     requires { ⌜ Ratio p inv ⌝ }
