@@ -4,7 +4,7 @@ use mathlib.Core.Path.{_≡_, refl, sym, ap, ap₂, _∙_, subst⁻¹}
 use mathlib.Core.List.{List}
 use mathlib.Core.Logic.{⊎-elim}
 use Prim.Native.Nat.{ℕ, _+_, _-_, _*_, _%_, _<_, _≤_}
-use native.Mathlib.Nat.{add-mod, mul-le-mul}
+use native.Mathlib.Nat.{add-mod, mod-mod, mul-le-mul}
 use native.Mathlib.Numerals.{add-one}
 use native.Mathlib.Omega.{arith}
 use borrow.Author.Count.{below-more}
@@ -125,6 +125,10 @@ module _ (p : ℕ) (v : List ℕ) (q c k : ℕ) where
 -- What `rest` leaves of g at place i.
 abbrev pub rested : ℕ → ℕ → List (List ℕ) → List ℕ → ℕ → ℕ
 rested p s t g i = (getD g i 0 + colSum g t s i) % p
+
+pub rested-whole : {p e : ℕ} {g x : List ℕ} (s : ℕ) (t : List (List ℕ)) → Changed p e (rested p s t g) g x → (c : ℕ) → c < e
+    → getD x c 0 % p ≡ getD x c 0
+rested-whole {p} {e} {g} s t r c l = ap (λ (z : ℕ). z % p) (r .done c l) ∙ mod-mod (getD g c 0 + colSum g t s c) p ∙ sym (r .done c l)
 
 -- A line v with the factors of g, which `factors` made of row, and of which `rest` made x.
 module _ (p e s : ℕ) (t : List (List ℕ)) (row g x v : List ℕ) (ls : s ≤ 12) (le : e ≤ 12) (f : Factored p t row g s)

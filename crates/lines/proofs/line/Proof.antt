@@ -2,25 +2,28 @@
 -- Assumes nothing.
 use mathlib.Core.Path.{sym, _∙_}
 use Prim.Native.Nat.{_<_}
-use native.Mathlib.Nat.{mod-lt, mod-eq-of-lt}
 use native.Mathlib.Omega.{arith}
-use lib.ListN.{getD}
 use borrow.Author.Needs.{needs}
-use Rattle.lines.proofs.Laws.{lined-none, lined-some}
+use Rattle.lines.proofs.Laws.{rested-whole, lined-none, lined-some}
 use Rattle.lines.proofs.line.Statement.{statement}
 use Rattle.lines.proofs.line.Tie as tie
 
 factors-requires : tie.Need-factors-requires
-factors-requires c κs = search needs
+factors-requires c κs = ((omega (arith, c .pre .0 .two), c .pre .1 .0 .2), c .pre .1 .1)
 
 rest-requires : tie.Need-rest-requires
-rest-requires c κs = search needs
+rest-requires c κs =
+    let s = c .before in
+    let h = s .pre .1 in
+    ((omega (arith, s .pre .0 .two), h .0 .2, h .0 .0), (h .1 .0, (c .factors .ensures .low, h .1 .1 .1 .0)))
 
 find-requires : tie.Need-find-requires
-find-requires c κs = search needs
+find-requires c κs = c .before .before .before .pre .1 .0 .0
 
 marked-requires : tie.Need-marked-requires
-marked-requires c κs = search needs
+marked-requires c κs =
+    let h = c .before .before .before .before .before .pre .1 .0 in
+    (((λ _. omega arith), omega (arith, h .0), h .1), c .before .before .before .rest .ensures .low)
 
 returns : tie.Need-returns
 returns c =
@@ -43,19 +46,20 @@ array-read-a c = search needs
 inverse-requires : tie.Need-inverse-requires
 inverse-requires c κs =
     let s = c .before .before .before .before .before in
-    let x = c .before .before .before .rest in
     let f = c .before .find in
-    let two = s .pre .0 .two in
     let lt : f .result < s .args .e = omega arith in
-    let done = x .ensures .done (f .result) lt in
-    let low : getD (x .result) (f .result) 0 < s .args .p = rw done (mod-lt _ (omega arith)) in
-    (s .pre .0, (s .pre .1 .1 .0, λ z. f .ensures .1 .1 lt (sym (mod-eq-of-lt low) ∙ z)))
+    let whole = rested-whole (s .args .s) (s .args .t .now) (c .before .before .before .rest .ensures) (f .result) lt in
+    (s .pre .0, (s .pre .1 .1 .0, λ z. f .ensures .1 .1 lt (sym whole ∙ z)))
 
 scaled-requires : tie.Need-scaled-requires
-scaled-requires c κs = search needs
+scaled-requires c κs =
+    let s = c .before .before .before .before .before .before in
+    ((omega (arith, s .pre .0 .two), s .pre .1 .0 .0), (s .pre .1 .1 .0, c .before .before .before .before .rest .ensures .low))
 
 marked-requires-2 : tie.Need-marked-requires-2
-marked-requires-2 c κs = search needs
+marked-requires-2 c κs =
+    let h = c .before .before .before .before .before .before .before .pre .1 .0 in
+    (((λ lp. omega (arith, c .before .inverse .ensures .1)), omega (arith, h .0, c .before .before .before .find .ensures .0), h .1), c .scaled .ensures .low)
 
 returns-2 : tie.Need-returns-2
 returns-2 c =
