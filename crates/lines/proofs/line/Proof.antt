@@ -59,7 +59,9 @@ scaled-requires c κs =
 marked-requires-2 : tie.Need-marked-requires-2
 marked-requires-2 c κs =
     let h = c .before .before .before .before .before .before .before .pre .1 .0 in
-    (((λ lp. omega (arith, c .before .inverse .ensures .1)), omega (arith, h .0, c .before .before .before .find .ensures .0), h .1), c .scaled .ensures .low)
+    let q = c .before .inverse .ensures .1 in
+    let l = c .before .before .before .find .ensures .0 in
+    (((λ lp. omega arith), omega arith, h .1), c .scaled .ensures .low)
 
 returns-2 : tie.Need-returns-2
 returns-2 c =
