@@ -4,11 +4,10 @@
 use mathlib.Core.Path.{_≡_, refl, sym, ap, ap₂, _∙_}
 use mathlib.Core.Bool.{Bool, true, false, not}
 use mathlib.Core.List.{List, [], _∷_}
-use Prim.Native.Nat.{ℕ, zero, suc}
+use Prim.Native.Nat.{ℕ}
 use lib.Dec.{leb, ltb}
-use lib.ListN.{getD}
 use Rattle.algebra.specs.Ring.{Ring}
-use Rattle.algebra.proofs.Ring.{lcomm, mlcomm, zero-r, one-r, neg-l, dist-r, neg-cancel, cancel, mul-zero, zero-mul, neg-mul, mul-neg, neg-add, neg-neg, neg-zero}
+use Rattle.algebra.proofs.Ring.{lcomm, mlcomm, zero-r, one-r, dist-r, cancel, mul-zero, zero-mul, neg-mul, mul-neg, neg-add, neg-neg, neg-zero}
 
 infixl 65 _:+_
 infixl 65 _:-_

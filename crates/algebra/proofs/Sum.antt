@@ -1,7 +1,7 @@
 -- Laws of finite sums and of the product of vectors; unit vectors, and a vector with one place more.
 -- Assumes nothing.
 use mathlib.Core.Path.{_≡_, refl, sym, ap, ap₂, _∙_}
-use mathlib.Core.Bool.{Bool, true, false, cond}
+use mathlib.Core.Bool.{cond}
 use mathlib.Core.List.{List, [], _∷_}
 use Prim.Native.Nat.{ℕ, zero, suc, _<_, _≤_}
 use mathlib.Core.Logic.{⊎-elim}
@@ -9,11 +9,11 @@ use native.Mathlib.Nat.{eq-or-lt-of-le, le-of-suc-le-suc, not-suc-le-zero}
 use native.Mathlib.Omega.{arith}
 use lib.ListN.{getD}
 use lib.Dec.{eqb, ltb}
-use borrow.Author.Tests.{eqb-true, eqb-false, eq-eqb, ne-eqb, lt-ltb, le-ltb}
+use borrow.Author.Tests.{eq-eqb, ne-eqb, lt-ltb, le-ltb}
 use Rattle.algebra.specs.Ring.{Ring}
 use Rattle.algebra.specs.Sum.{sum, dot}
 use Rattle.algebra.proofs.Ring.{mul-zero, zero-r, zero-mul, mlcomm}
-use Rattle.algebra.proofs.Normal.{Ex, v, c0, c1, _:+_, _:-_, _:*_, ng, ring}
+use Rattle.algebra.proofs.Normal.{v, c0, _:+_, _:-_, _:*_, ring}
 
 module _ {A : Type 0} (R : Ring A) where
   open Ring R using (𝟘, 𝟙, _⊕_, _⊗_, neg, zero-l, one-l, mcomm, assoc)

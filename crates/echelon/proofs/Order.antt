@@ -16,7 +16,7 @@ use Rattle.residue.proofs.Field.{residues, res-zero}
 use Rattle.linear.specs.Combination.{KeptRule}
 use Rattle.linear.specs.Rows.{target, rowsOf, columnsOf, OpeningVector, Witness}
 use Rattle.linear.specs.Space.{AddUp, Comb}
-use Rattle.linear.proofs.Carry.{W, dot-iff, coeffs-numbers, rule-down}
+use Rattle.linear.proofs.Carry.{dot-iff, coeffs-numbers, rule-down}
 use Rattle.linear.proofs.Kept.{kept, keeps, canon-coeffs, canon-only}
 use Rattle.linear.proofs.Solve.{Canon}
 use Rattle.echelon.specs.Order.{work, goal, matrix}

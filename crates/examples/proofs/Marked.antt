@@ -1,11 +1,10 @@
 -- S's sets 21, 31, 5 and 2 (document 01, examples B to E): the definitions compute to the marked vectors, and permit no others.
 -- Assumes nothing.
-use mathlib.Core.Path.{_≡_, refl, ap, ap₂, sym, _∙_}
+use mathlib.Core.Path.{_≡_, refl, ap, ap₂}
 use mathlib.Core.Logic.{_⊎_, inl, inr}
 use mathlib.Core.List.{List, [], _∷_, map}
 use Prim.Native.Nat.{ℕ, zero, suc, _<_}
 use native.Mathlib.Omega.{arith}
-use lib.Dec.{T}
 use Rattle.residue.specs.Prime.{Prime}
 use Rattle.residue.proofs.Moduli.{modulus-prime}
 use Rattle.linear.specs.Rows.{OpeningVector, Witness}

@@ -1,17 +1,16 @@
 -- From numbers modulo p to residues and back: totals, combinations, the kept rule, coefficients, functionals.
 -- Assumes nothing.
 use mathlib.Core.Path.{_≡_, refl, sym, ap, ap₂, _∙_}
-use mathlib.Core.Bool.{Bool, true, false}
+use mathlib.Core.Bool.{Bool}
 use mathlib.Core.Logic.{_↔_}
 use Prim.Native.Nat.{ℕ, zero, suc, _<_, _+_, _-_, _*_, _%_}
 use native.Mathlib.Nat.{mod-eq-of-lt, zero-mod}
 use native.Mathlib.Omega.{arith}
-use Rattle.algebra.specs.Ring.{Ring}
 use Rattle.algebra.specs.Sum.{sum, dot}
 use Rattle.algebra.proofs.Sum.{sum-cong}
 use Rattle.residue.specs.Prime.{Prime}
-use Rattle.residue.specs.Residue.{F, res, _⊕_, _⊗_, neg}
-use Rattle.residue.proofs.Field.{residueRing, residues, res-val, res-same, res-mod, res-add, res-mul, res-zero, res-inj}
+use Rattle.residue.specs.Residue.{F, res, _⊕_, _⊗_}
+use Rattle.residue.proofs.Field.{residueRing, residues, res-val, res-same, res-add, res-mul, res-zero}
 use Rattle.linear.specs.Combination.{total, AddUpTo, Combination, CombinationOf, KeptRule}
 use Rattle.linear.specs.Question.{Coefficients, Functional}
 use Rattle.linear.specs.Space.{AddUp, Comb, CombOf, Keeps, Coeffs, Separates}

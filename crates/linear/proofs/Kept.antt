@@ -1,13 +1,12 @@
 -- The kept rule over a field, and the theorem of the one question in its words: coefficients or a functional, never both, the
 -- coefficients unique. `kept` marks by what `solve` answers; any marks that follow the rule agree with it.
 -- Assumes nothing.
-use mathlib.Core.Path.{_≡_, refl, sym, ap, ap₂, _∙_}
+use mathlib.Core.Path.{_≡_, refl, sym, ap₂, _∙_}
 use mathlib.Core.Bool.{Bool, true, false, cond, false≢true, true≢false}
 use mathlib.Core.Logic.{_⊎_, inl, inr, ⊎-elim}
 use Prim.Native.Nat.{ℕ, zero, suc, _<_, _+_}
 use native.Mathlib.Omega.{arith}
 use Rattle.algebra.specs.Ring.{Ring, Field}
-use Rattle.algebra.specs.Sum.{sum, dot}
 use Rattle.algebra.proofs.Ring.{zero-mul}
 use Rattle.algebra.proofs.Sum.{sum-zero}
 use Rattle.linear.specs.Combination.{count}

@@ -2,15 +2,14 @@
 -- coefficients, the kept vectors and their number are unique. And: only what is read counts.
 -- Assumes nothing.
 use mathlib.Core.Path.{_≡_, refl, sym, ap, ap₂, _∙_, subst}
-use mathlib.Core.Bool.{Bool, true, false}
+use mathlib.Core.Bool.{Bool, false}
 use mathlib.Core.Logic.{_⊎_, inl, inr, ⊎-elim}
-use Prim.Native.Nat.{ℕ, zero, suc, _<_, _+_, _*_, _%_}
+use Prim.Native.Nat.{ℕ, zero, suc, _<_, _*_, _%_}
 use native.Mathlib.Omega.{arith}
-use Rattle.algebra.specs.Ring.{Ring}
 use Rattle.residue.specs.Prime.{Prime}
-use Rattle.residue.specs.Residue.{F, res}
+use Rattle.residue.specs.Residue.{res}
 use Rattle.residue.proofs.Field.{residues, zero-res, res-inj}
-use Rattle.linear.specs.Combination.{total, count, AddUpTo, Combination, CombinationOf, KeptRule, KeptCount}
+use Rattle.linear.specs.Combination.{count, AddUpTo, CombinationOf, KeptRule, KeptCount}
 use Rattle.linear.specs.Question.{Coefficients, NoCombination, Functional}
 use Rattle.linear.proofs.Kept as Field
 use Rattle.linear.proofs.Kept.{kept, keeps, rule-kept, zero-dropped, count-cong}

@@ -4,14 +4,14 @@
 use mathlib.Core.Path.{_≡_, refl, sym, ap, _∙_, subst, subst⁻¹}
 use mathlib.Core.Bool.{Bool, false}
 use mathlib.Core.Logic.{_⊎_, inl, inr, ⊎-elim}
-use Prim.Native.Nat.{ℕ, zero, suc, _<_, _≤_, _+_, _-_, _*_, _%_, _/_}
-use native.Mathlib.Nat.{div-add-mod', le-of-suc-le-suc, not-suc-le-zero, mod-eq-of-lt}
+use Prim.Native.Nat.{ℕ, zero, suc, _<_, _+_, _-_, _*_, _%_, _/_}
+use native.Mathlib.Nat.{div-add-mod', le-of-suc-le-suc, mod-eq-of-lt}
 use native.Mathlib.Omega.{arith}
 use Rattle.residue.specs.Prime.{Prime}
 use Rattle.residue.proofs.Modulo.{mod-by, mod-neg, mod-neg-back}
 use Rattle.residue.proofs.Field.{positive}
 use Rattle.linear.specs.Combination.{total, AddUpTo, KeptRule}
-use Rattle.linear.specs.Question.{Coefficients, NoCombination, Functional}
+use Rattle.linear.specs.Question.{Coefficients, Functional}
 use Rattle.linear.specs.Rows.{target, rowsOf, columnsOf, OpeningVector, Witness}
 use Rattle.linear.proofs.Carry.{total-first}
 use Rattle.linear.proofs.Numbers as Question

@@ -32,7 +32,8 @@ module _ (at n : ℕ) (f : ℕ → ℕ) (a₀ : List ℕ) where
         (λ k lk. getD-set-other a j (at + k) x 0 (λ r. omega arith) ∙ h .done k lk)
         (ap (λ (n : ℕ). getD (set a j x) n 0) (sym q) ∙ getD-set-same a j x 0 (omega (arith, h .size)) ∙ e));
     before = λ k lk. getD-set-other a j k x 0 (λ r. omega arith) ∙ h .before k lk;
-    after = λ k lk. getD-set-other a j k x 0 (λ r. omega arith) ∙ h .after k (omega arith) }
+    after = λ k lk. getD-set-other a j k x 0 (λ r. omega arith) ∙ h .after k (omega arith);
+  }
 
 -- A list that is filled from its first place on, place by place.
 pub filled-front : (n : ℕ) (f : ℕ → ℕ) (x₀ x : List ℕ) (i : ℕ) → Filled 0 n f x₀ x i → (k : ℕ) → k < i → getD x k 0 ≡ f k

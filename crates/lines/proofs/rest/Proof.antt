@@ -48,7 +48,7 @@ loop-again c =
     let l = c .before .before .before .loop in
     let n : length (s .args .t5) ≡ 27 = search needs in
     fill-turn 0 (s .args .e) (rested (s .args .p) (s .args .s) (s .args .t .now) (s .args .t5)) (s .args .t5) (l .x) (l .i) (l .i) (c .col-dot .result) (l .inv) (omega arith) (omega arith)
-      (omega arith) (c .col-dot .ensures .0)
+    (omega arith) (c .col-dot .ensures .0)
 
 returns : tie.Need-returns Inv-loop μ-loop
 returns c =

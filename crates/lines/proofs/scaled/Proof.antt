@@ -59,7 +59,7 @@ loop-again c =
     let l = c .before .before .loop in
     let n : length (s .args .t5) ≡ 27 = search needs in
     fill-turn 0 (s .args .e) (λ k. s .args .q * getD (s .args .t5) k 0 % s .args .p) (s .args .t5) (l .x) (l .i) (l .i) (c .reduce .result) (l .inv) (omega arith) (omega arith)
-      (omega arith) (c .reduce .ensures .0)
+    (omega arith) (c .reduce .ensures .0)
 
 returns : tie.Need-returns Inv-loop μ-loop
 returns c =

@@ -1,0 +1,5 @@
+pub mod Lists
+pub mod Steps
+pub mod Turns
+pub mod Ends
+pub mod Settled
