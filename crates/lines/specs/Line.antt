@@ -17,7 +17,7 @@ Lows p t = p < 65536 → (j i : ℕ) → getD (getD t j []) i 0 < 65536
 
 -- inv is a ratio of p, as `residue::reduce` wants it.
 abbrev pub Ratio : ℕ → ℕ → Type 0
-Ratio p inv = inv * p ≤ 1099511627776
+Ratio p inv = inv * p ≤ 8796093022208
 
 -- Place i of line j.
 abbrev pub at : List (List ℕ) → ℕ → ℕ → ℕ

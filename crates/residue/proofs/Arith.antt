@@ -12,16 +12,16 @@ pub quotient-low : (x d : ℕ) → x / d * d ≤ x
 quotient-low x d = omega (arith, div-add-mod' x d)
 
 -- The quotient of x by p that inv, a ratio of p, gives is not too large.
-pub guess-low : (p inv x : ℕ) → inv * p ≤ 1099511627776 → x * inv / 1099511627776 * p ≤ x
+pub guess-low : (p inv x : ℕ) → inv * p ≤ 8796093022208 → x * inv / 8796093022208 * p ≤ x
 guess-low p inv x h =
-    let a : x * inv / 1099511627776 * 1099511627776 * p ≤ x * inv * p = mul-le-mul (quotient-low (x * inv) 1099511627776) (le-refl p) in
-    let b : x * (inv * p) ≤ x * 1099511627776 = mul-le-mul (le-refl x) h in
+    let a : x * inv / 8796093022208 * 8796093022208 * p ≤ x * inv * p = mul-le-mul (quotient-low (x * inv) 8796093022208) (le-refl p) in
+    let b : x * (inv * p) ≤ x * 8796093022208 = mul-le-mul (le-refl x) h in
     omega arith
 
 -- Nor does the product that it is taken from wrap.
-pub guess-fits : (p inv x : ℕ) → inv * p ≤ 1099511627776 → x < p * 8388608 → x * inv ≤ 9223372036854775808
+pub guess-fits : (p inv x : ℕ) → inv * p ≤ 8796093022208 → x < p * 1048576 → x * inv ≤ 9223372036854775808
 guess-fits p inv x h l =
-    let a : x * inv ≤ p * 8388608 * inv = mul-le-mul {n₁ = x} {m₁ = inv} {n₂ = p * 8388608} {m₂ = inv} (omega arith) (le-refl inv) in
+    let a : x * inv ≤ p * 1048576 * inv = mul-le-mul {n₁ = x} {m₁ = inv} {n₂ = p * 1048576} {m₂ = inv} (omega arith) (le-refl inv) in
     omega arith
 
 -- What is left of x after q times p was taken off is x modulo p once it is below p.

@@ -39,23 +39,23 @@ pub fn is_modulus(p: u32) -> bool
     false
 }
 
-// 2^40 / p, with which `reduce` divides by multiplying.
+// 2^43 / p, with which `reduce` divides by multiplying.
 pub fn ratio(p: u32) -> u64
     requires { ⌜ 0 < p ⌝ }
-    ensures { λ r. ⌜ r * p ≤ 1099511627776 ⌝ }
+    ensures { λ r. ⌜ r * p ≤ 8796093022208 ⌝ }
 {
-    1099511627776 / (p as u64)
+    8796093022208 / (p as u64)
 }
 
 // x modulo p. The quotient is guessed with `inv`, a ratio of p, and is never too large; for a sum of up to 13 products
 // of numbers below 2^16 the guess leaves less than p nearly always, and what it leaves else is divided.
 pub fn reduce(p: u32, inv: u64, x: u64) -> u32
-    requires { ⌜ (0 < p) × (inv * p ≤ 1099511627776) ⌝ }
+    requires { ⌜ (0 < p) × (inv * p ≤ 8796093022208) ⌝ }
     ensures { λ r. ⌜ (r ≡ x % p) × (r < p) ⌝ }
 {
     let m = p as u64;
-    if x < m * 8388608 {
-        let q = x * inv / 1099511627776;
+    if x < m * 1048576 {
+        let q = x * inv / 8796093022208;
         let rest = x - q * m;
         if rest < m {
             return rest as u32;
@@ -103,7 +103,7 @@ pub fn mul(p: u32, x: u32, y: u32) -> u32
 // The inverse of x, which is not 0 modulo p: with p = q y + r, y is - r / q, so acc x = y stays true while y falls to 1.
 pub fn inverse(p: u32, inv: u64, x: u32) -> u32
     requires { ⌜ Prime p ⌝ }
-    requires { ⌜ (inv * p ≤ 1099511627776) × (x % p ≡ 0 → ⊥) ⌝ }
+    requires { ⌜ (inv * p ≤ 8796093022208) × (x % p ≡ 0 → ⊥) ⌝ }
     ensures { λ r. ⌜ (r * x % p ≡ 1) × (r < p) ⌝ }
 {
     let mut acc: u32 = 1;
