@@ -14,7 +14,8 @@ use Rattle.residue.specs.Prime.{Prime}
 use Rattle.residue.specs.Residue.{res}
 use Rattle.residue.proofs.Field.{residues, res-zero}
 use Rattle.linear.specs.Combination.{KeptRule}
-use Rattle.linear.specs.Rows.{target, rowsOf, columnsOf, OpeningVector, Witness}
+use Rattle.linear.specs.Rows.{target, columnsOf, OpeningVector, Witness}
+use Rattle.linear.proofs.Masked.{rowsOf, opening-unmask, kills-unmask}
 use Rattle.linear.specs.Space.{AddUp, Comb}
 use Rattle.linear.proofs.Carry.{dot-iff, coeffs-numbers, rule-down}
 use Rattle.linear.proofs.Kept.{kept, keeps, canon-coeffs, canon-only}
@@ -80,13 +81,13 @@ module _ (p : ℕ) (H : Prime p) (d f : ℕ) (E : ℕ → ℕ → ℕ) (chosen :
       → AddUp (residues p H) (suc f) (work (residues p H) f (matrix p H E chosen)) d (λ k. res p H (r k)) (goal (residues p H) f)
       → Canon (residues p H) (suc f) (work (residues p H) f (matrix p H E chosen)) d (λ k. res p H (r k))
       → OpeningVector p d (suc f) E chosen r
-  opening-of r small adds canon = coeffs-numbers p H (suc f) (rowsOf E chosen) d target r small
+  opening-of r small adds canon = opening-unmask p (suc f) E chosen d r (coeffs-numbers p H (suc f) (rowsOf E chosen) d target r small
       (canon-coeffs (residues p H) (suc f) (matrix p H E chosen) d (λ j. res p H (target j)) (
         (λ k. res p H (r k)),
         from-order (residues p H) f (matrix p H E chosen) d (λ k. res p H (r k)) (goal (residues p H) f) (λ j. res p H (target j)) adds
             (put-at (residues p H .R) f (λ i. res p H 0) (res p H 1)) (λ j l. put-lt (residues p H .R) f (λ i. res p H 0) (res p H 1) j l),
       )
-      (canon-order (residues p H) f (matrix p H E chosen) d (λ k. res p H (r k)) canon))
+      (canon-order (residues p H) f (matrix p H E chosen) d (λ k. res p H (r k)) canon)))
 
   pub witness-of : (z y : ℕ → ℕ) → ((j : ℕ) → j < suc f → z j < p) → z 0 ≡ 1 → y f ≡ 1 → ((i : ℕ) → i < f → z (suc i) ≡ y i)
       → ((k : ℕ) → k < d → dot (residues p H .R) (suc f) (λ i. res p H (y i)) (work (residues p H) f (matrix p H E chosen) k) ≡ res p H 0)
@@ -102,9 +103,9 @@ module _ (p : ℕ) (H : Prime p) (d f : ℕ) (E : ℕ → ℕ → ℕ) (chosen :
         (λ j l q. sym (mod-eq-of-lt (small (suc j) (omega arith))) ∙ res-zero p H (res p H (z (suc j)))
         (canon-only (residues p H) d columns f (λ j. res p H (z (suc j)))
         (columns-order (residues p H) f (matrix p H E chosen) d (λ j. res p H (z j)) (λ i. res p H (y i)) (λ i l. ap (res p H) (zs i l)) canon) j l q));
-    kills = λ k l. dot-iff p H (suc f) z (rowsOf E chosen k) 0 .1
+    kills = λ k l. kills-unmask p (suc f) E chosen z k (dot-iff p H (suc f) z (rowsOf E chosen k) 0 .1
         (kills-order (residues p H) f (matrix p H E chosen) d (λ j. res p H (z j)) (λ i. res p H (y i))
-        (ap (res p H) (z0 ∙ sym yf)) (λ i l. ap (res p H) (zs i l)) kills k l) ∙ zero-mod p;
+        (ap (res p H) (z0 ∙ sym yf)) (λ i l. ap (res p H) (zs i l)) kills k l) ∙ zero-mod p);
   }
     where
       columns : ℕ → ℕ → Rattle.residue.specs.Residue.F p

@@ -17,17 +17,13 @@ use Rattle.algebra.proofs.Sum.{sum-cong, sum-zero, sum-at, put, put-lt, put-at}
 use Rattle.linear.specs.Combination.{count}
 use Rattle.linear.specs.Space.{Comb}
 use Rattle.linear.proofs.Comb.{comb-over}
-use Rattle.linear.proofs.Kept.{kept, kept-true, kept-false, count-cong}
+use Rattle.linear.proofs.Kept.{kept, kept-true, kept-false, count-cong, count-none}
 use Rattle.linear.proofs.Solve.{Sep, never, solve}
 use Rattle.echelon.specs.Basis.{Line, Basis, Reduced}
 use Rattle.echelon.specs.Order.{work}
 use Rattle.echelon.proofs.Steps.{start, skip, keep}
 use Rattle.echelon.proofs.Backward.{pivot-new}
 use Rattle.echelon.proofs.Order.{to-work, from-work}
-
-count-none : (n : ℕ) → count n (λ i. false) ≡ 0
-count-none zero = refl
-count-none (suc n) = omega (arith, count-none n)
 
 count-le : (n : ℕ) (b : ℕ → Bool) → count n b ≤ n
 count-le zero b = omega arith

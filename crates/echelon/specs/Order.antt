@@ -7,7 +7,7 @@ use Rattle.algebra.specs.Ring.{Ring, Field}
 use Rattle.algebra.proofs.Sum.{put}
 use Rattle.residue.specs.Prime.{Prime}
 use Rattle.residue.specs.Residue.{F, res}
-use Rattle.linear.specs.Rows.{rowsOf}
+use Rattle.linear.proofs.Masked.{rowsOf}
 
 module _ {A : Type 0} (K : Field A) (f : ℕ) where
   open Field K using (R)

@@ -17,6 +17,10 @@ pub count-cong : (n : ℕ) (b c : ℕ → Bool) → ((i : ℕ) → i < n → b i
 count-cong zero b c h = refl
 count-cong (suc n) b c h = ap₂ (λ (x : ℕ) y. x + cond y 1 0) (count-cong n b c (λ i l. h i (omega arith))) (h n (omega arith))
 
+pub count-none : (n : ℕ) → count n (λ i. false) ≡ 0
+count-none zero = refl
+count-none (suc n) = omega (arith, count-none n)
+
 module _ {A : Type 0} (K : Field A) (n : ℕ) (w : ℕ → ℕ → A) where
   open Field K using (R)
   open Ring R using (𝟘, 𝟙, _⊗_)

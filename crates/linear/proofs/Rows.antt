@@ -2,7 +2,7 @@
 -- The witness is the one question once more: columns 2 to e over the chosen rows, with the first column's negative as target.
 -- Assumes nothing.
 use mathlib.Core.Path.{_≡_, refl, sym, ap, _∙_, subst, subst⁻¹}
-use mathlib.Core.Bool.{Bool, false}
+use mathlib.Core.Bool.{Bool, true, false, cond, true≢false, false≢true}
 use mathlib.Core.Logic.{_⊎_, inl, inr, ⊎-elim}
 use Prim.Native.Nat.{ℕ, zero, suc, _<_, _+_, _-_, _*_, _%_, _/_}
 use native.Mathlib.Nat.{div-add-mod', le-of-suc-le-suc, mod-eq-of-lt}
@@ -12,23 +12,21 @@ use Rattle.residue.proofs.Modulo.{mod-by, mod-neg, mod-neg-back}
 use Rattle.residue.proofs.Field.{positive}
 use Rattle.linear.specs.Combination.{total, AddUpTo, KeptRule}
 use Rattle.linear.specs.Question.{Coefficients, Functional}
-use Rattle.linear.specs.Rows.{target, rowsOf, columnsOf, OpeningVector, Witness}
+use Rattle.linear.specs.Rows.{target, columnsOf, Open, Closed, OpeningVector, Witness, Rank}
+use Rattle.linear.proofs.Masked.{rowsOf, total-zero, opening-mask, opening-unmask, rank-mask, comb-mask, kills-mask, kills-unmask}
 use Rattle.linear.proofs.Carry.{total-first}
 use Rattle.linear.proofs.Numbers as Question
-use Rattle.linear.proofs.Numbers.{coefficients-unique, functional-none}
+use Rattle.linear.proofs.Numbers.{coefficients-unique, count-unique, functional-none}
+use Rattle.linear.proofs.Kept.{count-none}
 
 -- A first factor that is 1 modulo p.
 times-one : (p y x s : ℕ) → y % p ≡ 1 → (y * x + s) % p ≡ (x + s) % p
 times-one p y x s e = mod-by p (y * x + s) (x + s) 0 (y / p * x)
     (omega (arith, ap (λ (z : ℕ). z * x) (div-add-mod' y p), ap (λ (z : ℕ). z * x) e))
 
-total-none : (n : ℕ) (f : ℕ → ℕ) → total n (λ j. f j * 0) ≡ 0
-total-none zero f = refl
-total-none (suc n) f = omega (arith, total-none n f)
-
 -- A vector times the target is its first number.
 pub times-target : (f : ℕ) (z : ℕ → ℕ) → total (suc f) (λ j. z j * target j) ≡ z 0
-times-target f z = omega (arith, total-first f (λ j. z j * target j), total-none f (λ j. z (suc j)))
+times-target f z = omega (arith, total-first f (λ j. z j * target j), total-zero f (λ j. z (suc j) * 0) (λ j l. omega arith))
 
 -- The first column's negative, as numbers.
 abbrev pub minusFirst : ℕ → (ℕ → ℕ → ℕ) → (ℕ → Bool) → ℕ → ℕ
@@ -67,7 +65,7 @@ module _ (p : ℕ) (H : Prime p) (d f : ℕ) (E : ℕ → ℕ → ℕ) (chosen :
     rule = subst (λ (m : ℕ). KeptRule p d columns (c .kept) m) others (c .rule);
     below = λ j l. c .below (suc j) (omega arith);
     only = subst (λ (m : ℕ). (j : ℕ) → j < m → c .kept j ≡ false → z (suc j) ≡ 0) others (c .only);
-    gives = columns-of z (one-mod (z 0) (c .first)) (c .kills);
+    gives = columns-of z (one-mod (z 0) (c .first)) (λ k l. kills-mask p (suc f) E chosen z k (c .kills k l));
   }
 
   pub coefficients-witness : (z : ℕ → ℕ) → z 0 ≡ 1 → Coefficients p d columns f (minusFirst p E chosen) (λ j. z (suc j)) → Witness p d (suc f) E chosen z
@@ -77,7 +75,7 @@ module _ (p : ℕ) (H : Prime p) (d f : ℕ) (E : ℕ → ℕ → ℕ) (chosen :
     first = e;
     only = subst⁻¹ (λ (m : ℕ). (j : ℕ) → j < m → c .kept j ≡ false → z (suc j) ≡ 0) others (c .only);
     below = small;
-    kills = kills-of z (one-mod (z 0) e) (c .gives);
+    kills = λ k l. kills-unmask p (suc f) E chosen z k (kills-of z (one-mod (z 0) e) (c .gives) k l);
   }
     where
       small : (j : ℕ) → j < suc f → z j < p
@@ -87,15 +85,30 @@ module _ (p : ℕ) (H : Prime p) (d f : ℕ) (E : ℕ → ℕ → ℕ) (chosen :
   -- A witness is a functional that is 0 on each row and 1 on the target.
   pub witness-functional : (z : ℕ → ℕ) → Witness p d (suc f) E chosen z → Functional p (suc f) rows d target z
   witness-functional z c = record {
-    kills = c .kills;
+    kills = λ k l. kills-mask p (suc f) E chosen z k (c .kills k l);
     one = ap (λ (x : ℕ). x % p) (times-target f z) ∙ one-mod (z 0) (c .first);
   }
 
+  -- An opening vector shows that the chosen rows are open, a witness that they are closed.
+  pub opening-open : (r : ℕ → ℕ) → OpeningVector p d (suc f) E chosen r → Open p d (suc f) E chosen
+  opening-open r o = (r, (λ k l q. o .only k l (unkept k l q (o .kept k) refl)), o .gives)
+    where
+      unkept : (k : ℕ) → k < d → chosen k ≡ false → (b : Bool) → o .kept k ≡ b → o .kept k ≡ false
+      unkept k l q true w = absurd (true≢false (sym (o .rule k l .0 w .0) ∙ q))
+      unkept k l q false w = w
+
+  pub witness-closed : (z : ℕ → ℕ) → Witness p d (suc f) E chosen z → Closed p d (suc f) E chosen
+  witness-closed z c o = let w = comb-mask p (suc f) E chosen chosen d (λ k l q. q) target o in
+      functional-none p H (suc f) rows d target z (witness-functional z c) .none (w .0, w .2)
+
   pub open-not-closed : (r z : ℕ → ℕ) → OpeningVector p d (suc f) E chosen r → Witness p d (suc f) E chosen z → ⊥
-  open-not-closed r z o c = functional-none p H (suc f) rows d target z (witness-functional z c) .none (r, o .gives)
+  open-not-closed r z o c = witness-closed z c (opening-open r o)
 
   pub opening-unique : (r s : ℕ → ℕ) → OpeningVector p d (suc f) E chosen r → OpeningVector p d (suc f) E chosen s → (k : ℕ) → k < d → r k ≡ s k
-  opening-unique = coefficients-unique p H (suc f) rows d target
+  opening-unique r s o q = coefficients-unique p H (suc f) rows d target r s (opening-mask p (suc f) E chosen d r o) (opening-mask p (suc f) E chosen d s q)
+
+  pub rank-unique : (s u : ℕ) → Rank p d (suc f) E chosen s → Rank p d (suc f) E chosen u → s ≡ u
+  rank-unique s u a b = count-unique p H (suc f) rows d s u (rank-mask p (suc f) E chosen d s a) (rank-mask p (suc f) E chosen d u b)
 
   pub witness-unique : (x z : ℕ → ℕ) → Witness p d (suc f) E chosen x → Witness p d (suc f) E chosen z → (j : ℕ) → j < suc f → x j ≡ z j
   witness-unique x z c q zero l = c .first ∙ sym (q .first)
@@ -109,10 +122,40 @@ module _ (p : ℕ) (H : Prime p) (d f : ℕ) (E : ℕ → ℕ → ℕ) (chosen :
   -- Exactly one, and it computes.
   abbrev pub open-or-closed : ((r : ℕ → ℕ) × OpeningVector p d (suc f) E chosen r) ⊎ ((z : ℕ → ℕ) × Witness p d (suc f) E chosen z)
   open-or-closed = ⊎-elim
-      (λ r. inl r)
+      (λ r. inl (r .0, opening-unmask p (suc f) E chosen d (r .0) (r .1)))
       (λ y. ⊎-elim
       (λ c. inr (first-one (c .0), coefficients-witness (first-one (c .0)) refl (c .1)))
       (λ u. absurd (functional-none p H d columns f (minusFirst p E chosen) (u .0) (u .1) .none
       ((λ j. y .0 (suc j)), columns-of (y .0) (ap (λ (x : ℕ). x % p) (sym (times-target f (y .0))) ∙ y .1 .one) (y .1 .kills))))
       (Question.answer p H d columns f (minusFirst p E chosen)))
       (Question.answer p H (suc f) rows d target)
+
+  -- "The empty set, and a set that owns no row, are closed with z = the target", and no row is kept.
+  pub none-chosen : ((k : ℕ) → k < d → chosen k ≡ false) → Witness p d (suc f) E chosen target × Rank p d (suc f) E chosen 0
+  none-chosen none = (
+    record {
+      kept = λ j. false;
+      rule = λ j l. (
+        (λ q. absurd (false≢true q)),
+        λ h. absurd (h (
+          (λ i. 0),
+          (λ i li q. refl),
+          λ k lk.
+              ap (λ (x : ℕ). x % p) (total-zero j (λ i. 0 * columns i k) (λ i li. omega arith) ∙ sym (ap (λ b. cond b (E k (suc j)) 0) (none k lk))),
+        )),
+      );
+      below = small;
+      first = refl;
+      kills = λ k l q. absurd (true≢false (sym q ∙ none k l));
+      only = λ j l q. refl;
+    },
+    record {
+      kept = λ k. false;
+      rule = λ k l. ((λ q. absurd (false≢true q)), λ h. absurd (true≢false (sym (h .0) ∙ none k l)));
+      number = count-none d;
+    },
+  )
+    where
+      small : (j : ℕ) → j < suc f → target j < p
+      small zero l = H .two
+      small (suc j) l = omega (arith, H .two)

@@ -4,10 +4,10 @@ use mathlib.Core.List.{List}
 use Prim.Native.Nat.{ℕ, _+_, _*_}
 use lib.ListN.{getD}
 
--- Place i of a list.
+-- Place i of a list, counted from 0; past the end 0.
 abbrev pub place : List ℕ → ℕ → ℕ
 place l i = getD l i 0
 
--- Place i of vector k.
+-- Place i of vector k, for i below n.
 abbrev pub entry : ℕ → List ℕ → ℕ → ℕ → ℕ
 entry n l k i = getD l (k * n + i) 0

@@ -1,5 +1,5 @@
--- The one question over numbers modulo p: is t a combination of the first m of the vectors N? Its answers.
--- For a prime p exactly one holds, and the coefficients are unique: proofs/Numbers.antt.
+-- The one question over numbers modulo p: is t a combination of the first m of the vectors N? For a prime p exactly one of Coefficients
+-- and NoCombination holds, and the coefficients are unique: proofs/Numbers.antt.
 -- Assumes nothing.
 use mathlib.Core.Path.{_≡_}
 use mathlib.Core.Bool.{Bool, false}

@@ -1,5 +1,6 @@
 -- Vectors over a field: combinations, the kept rule, and the two answers to the one question "is t a combination of these vectors?".
--- w k i is place i of vector k, each vector has n places. The same notions over plain numbers modulo p are in Combination and Question.
+-- w k i is place i of vector k, each vector has n places. The same notions over plain numbers modulo p are in Combination and
+-- Question: no contract cites this file, only proofs do.
 -- Assumes nothing.
 use mathlib.Core.Path.{_≡_}
 use mathlib.Core.Bool.{Bool, true, false}

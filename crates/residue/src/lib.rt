@@ -1,6 +1,7 @@
-// Arithmetic modulo p on numbers of 32 bits, and the moduli. Every contract holds for all operands of 32 bits; nothing wraps.
+// Arithmetic modulo p on numbers of 32 bits, and the moduli. Every contract holds for every p above 0 and all operands of 32 bits, in
+// `reduce` of 64; `inverse` wants a prime p and an operand that is not 0 modulo p. Nothing wraps.
 ghost use mathlib.Core.Path.{_≡_};
-ghost use Prim.Native.Nat.{_+_, _-_, _*_, _%_, _<_, _≤_};
+ghost use Prim.Native.Nat.{_+_, _-_, _*_, _/_, _%_, _<_, _≤_};
 ghost use Rattle.residue.specs.Prime.{Prime};
 ghost use Rattle.residue.specs.Moduli.{isModulus};
 
@@ -42,17 +43,18 @@ pub fn is_modulus(p: u32) -> bool
 // 2^43 / p, with which `reduce` divides by multiplying.
 pub fn ratio(p: u32) -> u64
     requires { ⌜ 0 < p ⌝ }
-    ensures { λ r. ⌜ r * p ≤ 8796093022208 ⌝ }
+    ensures { λ r. ⌜ (r ≡ 8796093022208 / p) × (r * p ≤ 8796093022208) ⌝ }
 {
     8796093022208 / (p as u64)
 }
 
-// x modulo p. The quotient is guessed with `inv`, a ratio of p, and is never too large; for a sum of up to 13 products
-// of numbers below 2^16 the guess leaves less than p nearly always, and what it leaves else is divided.
+// x modulo p; `inv` is a ratio of p.
 pub fn reduce(p: u32, inv: u64, x: u64) -> u32
     requires { ⌜ (0 < p) × (inv * p ≤ 8796093022208) ⌝ }
     ensures { λ r. ⌜ (r ≡ x % p) × (r < p) ⌝ }
 {
+    // The quotient is guessed, never too large. For a sum of up to 13 products of numbers below 2^16 the guess leaves less than p nearly
+    // always; what it leaves else is divided.
     let m = p as u64;
     if x < m * 1048576 {
         let q = x * inv / 8796093022208;
@@ -100,12 +102,13 @@ pub fn mul(p: u32, x: u32, y: u32) -> u32
     (((x as u64) * (y as u64)) % (p as u64)) as u32
 }
 
-// The inverse of x, which is not 0 modulo p: with p = q y + r, y is - r / q, so acc x = y stays true while y falls to 1.
+// The inverse of x. `inv` is a ratio of p, as in `reduce`.
 pub fn inverse(p: u32, inv: u64, x: u32) -> u32
     requires { ⌜ Prime p ⌝ }
     requires { ⌜ (inv * p ≤ 8796093022208) × (x % p ≡ 0 → ⊥) ⌝ }
     ensures { λ r. ⌜ (r * x % p ≡ 1) × (r < p) ⌝ }
 {
+    // With p = k y + l, y is - l / k modulo p: so acc x = y stays true modulo p while y falls to 1.
     let mut acc: u32 = 1;
     let mut y = x % p;
     while 1 < y {

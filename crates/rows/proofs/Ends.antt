@@ -7,9 +7,8 @@ use Prim.Native.Nat.{ℕ, suc, _<_, _+_, _-_}
 use native.Mathlib.Omega.{arith}
 use lib.ListN.{length, getD}
 use Rattle.residue.specs.Prime.{Prime}
-use Rattle.linear.specs.Combination.{KeptCount}
 use Rattle.linear.specs.Flat.{place, entry}
-use Rattle.linear.specs.Rows.{rowsOf, OpeningVector, Witness}
+use Rattle.linear.specs.Rows.{OpeningVector, Witness, Rank}
 use Rattle.lines.specs.Line.{at}
 use Rattle.backward.specs.Solution.{Killed}
 use Rattle.rows.specs.Chosen.{bit}
@@ -33,8 +32,8 @@ next-inverse p e k s w m t v nx z = nx .made (made-chosen p e k s w m t v nx (om
 
 module _ (p e f d chosen : ℕ) (m : List ℕ) (q : e ≡ suc f) (H : Prime p) (k s : ℕ) (t : List (List ℕ)) (r₀ z r : List ℕ) (o : Bool)
     (n₀ : length r₀ ≡ d) (kd : k ≡ d) (g : Going p f d (entry e m) (bit chosen) k s t r₀ o r) where
-  rank : KeptCount p e (rowsOf (entry e m) (bit chosen)) d s
-  rank = subst⁻¹ (λ (e′ : ℕ). KeptCount p e′ (rowsOf (entry e m) (bit chosen)) d s) q
+  rank : Rank p d e (entry e m) (bit chosen) s
+  rank = subst⁻¹ (λ (e′ : ℕ). Rank p d e′ (entry e m) (bit chosen) s) q
       (rank-end p e f d m (bit chosen) q s t (subst (λ (k : ℕ). State p f (entry e m) (bit chosen) k s t) kd (g .state)) H)
 
   pub answered-open : o ≡ true → Answered p d e chosen m r₀ z (record { opens = true; rank = s }) r z

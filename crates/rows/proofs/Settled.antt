@@ -8,9 +8,7 @@ use native.Mathlib.Omega.{arith}
 use lib.Seq.{ext-getD}
 use Rattle.residue.specs.Prime.{Prime}
 use Rattle.linear.specs.Flat.{place, entry}
-use Rattle.linear.specs.Rows.{rowsOf}
-use Rattle.linear.proofs.Numbers.{count-unique}
-use Rattle.linear.proofs.Rows.{open-not-closed, opening-unique, witness-unique}
+use Rattle.linear.proofs.Rows.{open-not-closed, opening-unique, witness-unique, rank-unique}
 use Rattle.rows.specs.declared.Answer.{Answer}
 use Rattle.rows.specs.Chosen.{bit}
 use Rattle.rows.specs.Answered.{Answered}
@@ -37,4 +35,4 @@ module _ (p d f chosen : ℕ) (entries r z : List ℕ) (H : Prime p) where
       → Answered p d (suc f) chosen entries r z b r₂ z₂ → (a ≡ b) × (r₁ ≡ r₂) × (z₁ ≡ z₂)
   unfolding answer
   settled a b r₁ z₁ r₂ z₂ x y = let l = lists (a .opens) (b .opens) (a .rank) (b .rank) r₁ z₁ r₂ z₂ x y in
-      (ap (λ o. answer o (a .rank)) (l .0) ∙ ap (answer (b .opens)) (count-unique p H (suc f) (rowsOf E (bit chosen)) d (a .rank) (b .rank) (x .rank) (y .rank)), l .1, l .2)
+      (ap (λ o. answer o (a .rank)) (l .0) ∙ ap (answer (b .opens)) (rank-unique p H d f E (bit chosen) (a .rank) (b .rank) (x .rank) (y .rank)), l .1, l .2)

@@ -18,9 +18,9 @@ use Rattle.algebra.proofs.Sum.{put-lt, put-at}
 use Rattle.residue.specs.Prime.{Prime}
 use Rattle.residue.specs.Residue.{res, _⊗_}
 use Rattle.residue.proofs.Field.{residueRing, residues}
-use Rattle.linear.specs.Combination.{KeptCount}
 use Rattle.linear.specs.Flat.{place, entry}
-use Rattle.linear.specs.Rows.{rowsOf, OpeningVector, Witness}
+use Rattle.linear.specs.Rows.{OpeningVector, Witness, Rank}
+use Rattle.linear.proofs.Masked.{rowsOf, rank-unmask}
 use Rattle.linear.proofs.Numbers.{kept-count}
 use Rattle.echelon.specs.Order.{goal, matrix}
 use Rattle.echelon.specs.Backward.{Solving, Killing}
@@ -228,9 +228,9 @@ module _ (p e f d : ℕ) (m : List ℕ) (chosen : ℕ → Bool) (q : e ≡ suc f
       low zero l = subst⁻¹ (λ (x : ℕ). x < p) z0 (small f)
       low (suc j) l = subst⁻¹ (λ (x : ℕ). x < p) (next j (omega arith)) (small j)
 
-  pub rank-end : (s : ℕ) (t : List (List ℕ)) → State p f (entry e m) chosen d s t → Prime p → KeptCount p (suc f) (rowsOf (entry e m) chosen) d s
-  rank-end s t st H = kept-count p H (suc f) (rowsOf (entry e m) chosen) d s
-      (rank-rows (residues p H) f (matrix p H (entry e m) chosen) d s (linesOf p H t) (st .basis H))
+  pub rank-end : (s : ℕ) (t : List (List ℕ)) → State p f (entry e m) chosen d s t → Prime p → Rank p d (suc f) (entry e m) chosen s
+  rank-end s t st H = rank-unmask p (suc f) (entry e m) chosen d s (kept-count p H (suc f) (rowsOf (entry e m) chosen) d s
+      (rank-rows (residues p H) f (matrix p H (entry e m) chosen) d s (linesOf p H t) (st .basis H)))
 
 -- What a wanted row gives, and one that is not wanted.
 pub next-made : (p e k s : ℕ) (w : Bool) (m : List ℕ) (t : List (List ℕ)) (v row : List ℕ) → w ≡ true → Shaped p e v

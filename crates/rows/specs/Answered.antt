@@ -6,9 +6,8 @@ use mathlib.Core.Bool.{true, false}
 use mathlib.Core.List.{List}
 use Prim.Native.Nat.{ℕ}
 use lib.ListN.{length}
-use Rattle.linear.specs.Combination.{KeptCount}
 use Rattle.linear.specs.Flat.{place, entry}
-use Rattle.linear.specs.Rows.{rowsOf, OpeningVector, Witness}
+use Rattle.linear.specs.Rows.{OpeningVector, Witness, Rank}
 use Rattle.rows.specs.declared.Answer.{Answer}
 use Rattle.rows.specs.Chosen.{bit}
 
@@ -16,4 +15,4 @@ use Rattle.rows.specs.Chosen.{bit}
 pub record Answered (p d e chosen : ℕ) (entries r z : List ℕ) (a : Answer) (r′ z′ : List ℕ) : Type 0 where
   pub if-open : a .opens ≡ true → OpeningVector p d e (entry e entries) (bit chosen) (place r′) × (length r′ ≡ d) × (z′ ≡ z)
   pub if-closed : a .opens ≡ false → Witness p d e (entry e entries) (bit chosen) (place z′) × (length z′ ≡ e) × (r′ ≡ r)
-  pub rank : KeptCount p e (rowsOf (entry e entries) (bit chosen)) d (a .rank)
+  pub rank : Rank p d e (entry e entries) (bit chosen) (a .rank)

@@ -1,5 +1,5 @@
 // The question of the chosen rows: is the target (1, 0, .., 0) a combination of them? `ask` answers it for up to 32 rows of up to 12
-// numbers, with the vector r or the witness z and the number of kept rows, all from one working table of 1,296 bytes, row by row.
+// numbers, with the vector r or the witness z and the number of kept rows. One working table of 1,296 bytes, row by row.
 ghost use mathlib.Core.Path.{_≡_};
 ghost use mathlib.Core.List.{[]};
 ghost use mathlib.Core.Bool.{true, false, _&&_};
@@ -13,7 +13,7 @@ ghost use Rattle.rows.specs.Chosen.{bit};
 ghost use Rattle.rows.specs.Answered.{Answered};
 ghost use Rattle.rows.specs.State.{rowAt, Next};
 
-// Whether the chosen rows open, and how many of them are kept.
+// Whether the chosen rows are open, and how many of them are kept.
 pub struct Answer {
     pub opens: bool,
     pub rank: usize,
@@ -140,7 +140,8 @@ fn blank() -> [[u32; 27]; 12]
     [z; 12]
 }
 
-// Do the chosen rows open? r is written where they do, z where they do not. Row k is chosen when bit k of `chosen` is one.
+// Are the chosen rows open? r is written where they are, z where they are not, and the other list stays. Row k is chosen when bit k of
+// `chosen` is one; bits from d up do not matter.
 // Wrong answers that the contract rules out: "open" with weights that do not add up to the target, or at a row that is not kept;
 // "closed" with a witness that some chosen row does not kill; "closed" because there are fewer rows than columns.
 pub fn ask(

@@ -1,5 +1,6 @@
 -- `residue::ratio` meets its contract: a quotient times its divisor is at most what was divided.
 -- Assumes nothing.
+use mathlib.Core.Path.{refl}
 use borrow.Author.Needs.{needs}
 use Rattle.residue.proofs.Arith.{quotient-low}
 use Rattle.residue.proofs.ratio.Statement.{statement}
@@ -9,7 +10,7 @@ div-result : tie.Need-div-result
 div-result c = search needs
 
 returns : tie.Need-returns
-returns c = quotient-low _ _
+returns c = (refl, quotient-low _ _)
 
 pub ratio-spec : {M : Type 1} → statement M
 ratio-spec = tie.close (tie.spec div-result returns)

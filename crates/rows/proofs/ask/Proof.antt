@@ -31,10 +31,10 @@ loop-holds : tie.Need-loop-holds Inv-loop μ-loop
 loop-holds c = let s = c .before .before .before .before .before in let q : s .args .e ≡ suc (s .args .e - 1) = omega arith in (omega arith, going-start (s .args .p) (s .args .e) (s .args .e - 1) (s .args .d) (s .args .entries .now) (bit (s .args .chosen)) q (c .blank .result) (s .args .r .now) (c .blank .ensures .0) (λ lp j i. rw (c .blank .ensures .1 j i) (omega arith)))
 
 next-line-requires : tie.Need-next-line-requires Inv-loop μ-loop
-next-line-requires c κs = let s = c .before .before .before .before .before .before .before .before in let l = c .before .before .loop in let g = l .inv .1 in let st = g .state in let fits = st .fits in (s .pre .0, ((s .pre .1 .0 .1, s .pre .1 .0 .2, omega arith, omega arith, omega (arith, row-fits (l .k) (s .args .d) (s .args .e) (omega arith), s .pre .1 .0 .3)), (c .before .before .before .before .ratio .ensures, ((λ lp i. let h = s .pre .1 .1 i in omega arith), (st .lows, λ j lj. let h = st .pivs j lj in omega arith)))))
+next-line-requires c κs = let s = c .before .before .before .before .before .before .before .before in let l = c .before .before .loop in let g = l .inv .1 in let st = g .state in let fits = st .fits in (s .pre .0, ((s .pre .1 .0 .1, s .pre .1 .0 .2, omega arith, omega arith, omega (arith, row-fits (l .k) (s .args .d) (s .args .e) (omega arith), s .pre .1 .0 .3)), (c .before .before .before .before .ratio .ensures .1, ((λ lp i. let h = s .pre .1 .1 i in omega arith), (st .lows, λ j lj. let h = st .pivs j lj in omega arith)))))
 
 settle-requires : tie.Need-settle-requires Inv-loop μ-loop
-settle-requires c κs = let s = c .before .before .before .before .before .before .before .before .before .before .before .before in let l = c .before .before .before .before .before .before .loop in let g = l .inv .1 in let st = g .state in let fits = st .fits in let nx = c .before .before .before .next-line .ensures in let piv = nx .shape .piv in let two = s .pre .0 .two in let n = going-length _ _ _ _ _ _ _ _ _ _ _ g in ((omega arith, omega arith, omega (arith, s .pre .1 .0 .4), omega arith, omega arith), (c .before .before .before .before .before .before .before .before .ratio .ensures, ((λ z. next-inverse _ _ _ _ _ _ _ _ nx z), (st .lows, sources _ _ _ _ _ _ _ (s .pre .0) st))))
+settle-requires c κs = let s = c .before .before .before .before .before .before .before .before .before .before .before .before in let l = c .before .before .before .before .before .before .loop in let g = l .inv .1 in let st = g .state in let fits = st .fits in let nx = c .before .before .before .next-line .ensures in let piv = nx .shape .piv in let two = s .pre .0 .two in let n = going-length _ _ _ _ _ _ _ _ _ _ _ g in ((omega arith, omega arith, omega (arith, s .pre .1 .0 .4), omega arith, omega arith), (c .before .before .before .before .before .before .before .before .ratio .ensures .1, ((λ z. next-inverse _ _ _ _ _ _ _ _ nx z), (st .lows, sources _ _ _ _ _ _ _ (s .pre .0) st))))
 
 store-requires : tie.Need-store-requires Inv-loop μ-loop
 store-requires c κs = let s = c .before .before .before .before .before .before .before .before .before .before .before .before .before .before .before .before in let l = c .before .before .before .before .before .before .before .before .before .before .loop in let g = l .inv .1 in λ h. store-room (s .args .p) (s .args .e) (s .args .e - 1) (s .args .d) (s .args .entries .now) (bit (s .args .chosen)) (omega arith) (l .k) (l .s) (l .t) (g .state) (c .before .before .before .before .before .before .before .next-line .result) (s .pre .0) (s .pre .1 .0 .2) (c .before .before .before .before .before .before .before .next-line .ensures) h
@@ -55,7 +55,7 @@ returns : tie.Need-returns Inv-loop μ-loop
 returns c = let s = c .before .before .before .before .before .before .before .before in let l = c .before .before .loop in let kd : l .k ≡ s .args .d = omega arith in answered-open (s .args .p) (s .args .e) (s .args .e - 1) (s .args .d) (s .args .chosen) (s .args .entries .now) (omega arith) (s .pre .0) (l .k) (l .s) (l .t) (s .args .r .now) (s .args .z .now) (l .r) (l .opens) (s .pre .1 .0 .4) kd (l .inv .1) (c .if1 .taken)
 
 killing-requires : tie.Need-killing-requires Inv-loop μ-loop
-killing-requires c κs = let s = c .before .before .before .before .before .before .before .before .before in let l = c .before .before .before .loop in let g = l .inv .1 in let st = g .state in let fits = st .fits in let two = s .pre .0 .two in ((omega arith, s .pre .1 .0 .1, s .pre .1 .0 .2, omega arith), (c .before .before .before .before .before .ratio .ensures, (st .lows, g .if-closed (c .before .if1 .left) .1)))
+killing-requires c κs = let s = c .before .before .before .before .before .before .before .before .before in let l = c .before .before .before .loop in let g = l .inv .1 in let st = g .state in let fits = st .fits in let two = s .pre .0 .two in ((omega arith, s .pre .1 .0 .1, s .pre .1 .0 .2, omega arith), (c .before .before .before .before .before .ratio .ensures .1, (st .lows, g .if-closed (c .before .if1 .left) .1)))
 
 unload-requires : tie.Need-unload-requires Inv-loop μ-loop
 unload-requires c κs = let s = c .before .before .before .before .before .before .before .before .before .before .before .before in let n = s .pre .1 .0 .5 in (omega arith, omega arith)
