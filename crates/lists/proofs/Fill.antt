@@ -38,3 +38,7 @@ module _ (at n : ℕ) (f : ℕ → ℕ) (a₀ : List ℕ) where
 -- A list that is filled from its first place on, place by place.
 pub filled-front : (n : ℕ) (f : ℕ → ℕ) (x₀ x : List ℕ) (i : ℕ) → Filled 0 n f x₀ x i → (k : ℕ) → k < i → getD x k 0 ≡ f k
 filled-front n f x₀ x i h k l = ap (λ (j : ℕ). getD x j 0) (sym (zero-add k)) ∙ h .done k l
+
+-- A whole list that is filled.
+pub filled : (n : ℕ) (f : ℕ → ℕ) (x₀ x : List ℕ) (i : ℕ) → Filled 0 n f x₀ x i → n ≤ i → (k : ℕ) → k < n → getD x k 0 ≡ f k
+filled n f x₀ x i h l k lk = filled-front n f x₀ x i h k (omega arith)
