@@ -1,7 +1,7 @@
 -- `combination::dot` meets its contract. The loop's invariant: the products of the first i places are added up modulo p.
 -- Assumes nothing.
 use Prim.Native.Nat.{_-_, _*_}
-use borrow.Author.Needs.{needs}
+use native.Mathlib.Omega.{arith}
 use Rattle.linear.specs.Flat.{place, entry}
 use Rattle.combination.proofs.Laws.{Summing, sum-start, sum-turn, sum-end}
 use Rattle.combination.proofs.dot.Statement.{statement}
@@ -14,34 +14,34 @@ abbrev μ-loop : tie.MeasureT-loop
 μ-loop p k n a x at sum₀ i₀ sum i = n - i
 
 mul-at : tie.Need-mul-at Inv-loop μ-loop
-mul-at c = search needs
+mul-at c = omega arith
 
 loop-holds : tie.Need-loop-holds Inv-loop μ-loop
 loop-holds c = sum-start _ _ _ (c .before .before .pre .0)
 
 add-mul-add : tie.Need-add-mul-add Inv-loop μ-loop
-add-mul-add c = search needs
+add-mul-add c = omega arith
 
 mul-mul-add : tie.Need-mul-mul-add Inv-loop μ-loop
-mul-mul-add c = search needs
+mul-mul-add c = omega arith
 
 shared-slice-read-mul-add : tie.Need-shared-slice-read-mul-add Inv-loop μ-loop
-shared-slice-read-mul-add c = search needs
+shared-slice-read-mul-add c = omega arith
 
 mul-mul-add-2 : tie.Need-mul-mul-add-2 Inv-loop μ-loop
-mul-mul-add-2 c = search needs
+mul-mul-add-2 c = omega arith
 
 shared-slice-read-mul-add-2 : tie.Need-shared-slice-read-mul-add-2 Inv-loop μ-loop
-shared-slice-read-mul-add-2 c = search needs
+shared-slice-read-mul-add-2 c = omega arith
 
 mul-add-requires : tie.Need-mul-add-requires Inv-loop μ-loop
-mul-add-requires c κs = search needs
+mul-add-requires c κs = omega arith
 
 add-i : tie.Need-add-i Inv-loop μ-loop
-add-i c = search needs
+add-i c = omega arith
 
 loop-less : tie.Need-loop-less Inv-loop μ-loop
-loop-less c = search needs
+loop-less c = omega arith
 
 loop-again : tie.Need-loop-again Inv-loop μ-loop
 loop-again c =

@@ -2,7 +2,6 @@
 -- proofs/Dual.antt is its turn); k falls to 0. Assumes nothing.
 use Prim.Native.Nat.{_-_}
 use native.Mathlib.Omega.{arith}
-use borrow.Author.Needs.{needs}
 use Rattle.combination.specs.Steps.{Downed}
 use Rattle.combination.proofs.Steps.{downed-start, downed-turn, downed-end}
 use Rattle.lists.proofs.Store.{row-fits}
@@ -19,7 +18,7 @@ loop-holds : tie.Need-loop-holds Inv-loop μ-loop
 loop-holds c = downed-start _ _ _ _ _ _ _ (c .before .before .before .before .pre .0 .3)
 
 sub-k : tie.Need-sub-k Inv-loop μ-loop
-sub-k c = search needs
+sub-k c = omega arith
 
 cancel-requires : tie.Need-cancel-requires Inv-loop μ-loop
 cancel-requires c κs =
@@ -30,13 +29,13 @@ cancel-requires c κs =
     (s .pre .0 .0, omega arith, omega arith, h .len)
 
 mul-c : tie.Need-mul-c Inv-loop μ-loop
-mul-c c = search needs
+mul-c c = omega arith
 
 slice-write-c : tie.Need-slice-write-c Inv-loop μ-loop
-slice-write-c c = search needs
+slice-write-c c = omega arith
 
 loop-less : tie.Need-loop-less Inv-loop μ-loop
-loop-less c = search needs
+loop-less c = omega arith
 
 loop-again : tie.Need-loop-again Inv-loop μ-loop
 loop-again c =
@@ -46,10 +45,10 @@ loop-again c =
     downed-turn _ _ _ _ _ _ _ _ _ _ _ _ (q .1) (q .0 .4) (t .loop-test .taken) (l .loop .inv) (c .before .before .cancel .ensures)
 
 same-length : tie.Need-same-length Inv-loop μ-loop
-same-length c = search needs
+same-length c = omega arith
 
 same-length-2 : tie.Need-same-length-2 Inv-loop μ-loop
-same-length-2 c = search needs
+same-length-2 c = omega arith
 
 returns : tie.Need-returns Inv-loop μ-loop
 returns c = downed-end _ _ _ _ _ _ _ _ _ _ (c .before .loop .inv) (omega arith)

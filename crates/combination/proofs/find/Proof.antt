@@ -15,7 +15,7 @@ make-duals-requires c κs =
     (s .pre .0, (q .1, q .2, q .3, q .4, omega (arith, q .5)))
 
 fetch-requires : tie.Need-fetch-requires
-fetch-requires c κs = search needs
+fetch-requires c κs = omega arith
 
 down-requires : tie.Need-down-requires
 down-requires c κs =
@@ -35,16 +35,16 @@ first-nonzero-requires c κs =
     (positive _ (s .pre .0), d .down .ensures .len)
 
 same-length : tie.Need-same-length
-same-length c = search needs
+same-length c = omega arith
 
 same-length-2 : tie.Need-same-length-2
-same-length-2 c = search needs
+same-length-2 c = omega arith
 
 same-length-3 : tie.Need-same-length-3
-same-length-3 c = search needs
+same-length-3 c = omega arith
 
 same-length-4 : tie.Need-same-length-4
-same-length-4 c = search needs
+same-length-4 c = omega arith
 
 returns : tie.Need-returns
 returns c =

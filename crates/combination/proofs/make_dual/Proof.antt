@@ -7,7 +7,7 @@ use Rattle.combination.proofs.make_dual.Statement.{statement}
 use Rattle.combination.proofs.make_dual.Tie as tie
 
 fetch-requires : tie.Need-fetch-requires
-fetch-requires c κs = search needs
+fetch-requires c κs = omega arith
 
 down-requires : tie.Need-down-requires
 down-requires c κs = search needs
@@ -27,16 +27,16 @@ store-requires c κs =
     (u .separate .ensures .len, s .pre .1 .0 .1)
 
 same-length : tie.Need-same-length
-same-length c = search needs
+same-length c = omega arith
 
 same-length-2 : tie.Need-same-length-2
-same-length-2 c = search needs
+same-length-2 c = omega arith
 
 same-length-3 : tie.Need-same-length-3
-same-length-3 c = search needs
+same-length-3 c = omega arith
 
 same-length-4 : tie.Need-same-length-4
-same-length-4 c = search needs
+same-length-4 c = omega arith
 
 returns : tie.Need-returns
 returns c =

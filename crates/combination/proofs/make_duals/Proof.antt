@@ -1,7 +1,6 @@
 -- `combination::make_duals` meets its contract. The loop's invariant: the first k duals are made. Assumes nothing.
 use Prim.Native.Nat.{_≤_, _-_}
 use native.Mathlib.Omega.{arith}
-use borrow.Author.Needs.{needs}
 use Rattle.combination.specs.Steps.{Made}
 use Rattle.combination.proofs.Steps.{made-start, made-turn, made-end}
 use Rattle.lists.proofs.Store.{row-fits}
@@ -17,7 +16,7 @@ abbrev μ-loop : tie.MeasureT-loop
 loop-holds : tie.Need-loop-holds Inv-loop μ-loop
 loop-holds c =
     let q = c .before .before .before .before .before .pre .1 in
-    (search needs, made-start _ _ _ _ _ _ _ (q .2) (q .3))
+    (omega arith, made-start _ _ _ _ _ _ _ (q .2) (q .3))
 
 make-dual-requires : tie.Need-make-dual-requires Inv-loop μ-loop
 make-dual-requires c κs =
@@ -29,10 +28,10 @@ make-dual-requires c κs =
     (s .pre .0, ((omega (arith, q .0), omega (arith, q .1, h .duals-size), h .t-len, h .u-len, omega (arith, q .4, h .c-size)), h .is))
 
 add-k : tie.Need-add-k Inv-loop μ-loop
-add-k c = search needs
+add-k c = omega arith
 
 loop-less : tie.Need-loop-less Inv-loop μ-loop
-loop-less c = search needs
+loop-less c = omega arith
 
 loop-again : tie.Need-loop-again Inv-loop μ-loop
 loop-again c =
@@ -42,16 +41,16 @@ loop-again c =
     (omega (arith, t .loop-test .taken), made-turn _ _ _ _ _ _ _ _ _ _ _ _ _ _ _ h (d .make-dual .ensures))
 
 same-length : tie.Need-same-length Inv-loop μ-loop
-same-length c = search needs
+same-length c = omega arith
 
 same-length-2 : tie.Need-same-length-2 Inv-loop μ-loop
-same-length-2 c = search needs
+same-length-2 c = omega arith
 
 same-length-3 : tie.Need-same-length-3 Inv-loop μ-loop
-same-length-3 c = search needs
+same-length-3 c = omega arith
 
 same-length-4 : tie.Need-same-length-4 Inv-loop μ-loop
-same-length-4 c = search needs
+same-length-4 c = omega arith
 
 returns : tie.Need-returns Inv-loop μ-loop
 returns c =

@@ -1,18 +1,19 @@
 -- `combination::seed` meets its contract: u is 0, or 0 but at the first place i where t is not 0, where it is the inverse of t.
 -- Assumes nothing.
+use native.Mathlib.Omega.{arith}
 use borrow.Author.Needs.{needs}
 use Rattle.combination.proofs.Steps.{seeded-no, seeded-yes}
 use Rattle.combination.proofs.seed.Statement.{statement}
 use Rattle.combination.proofs.seed.Tie as tie
 
 clear-requires : tie.Need-clear-requires
-clear-requires c κs = search needs
+clear-requires c κs = omega arith
 
 first-nonzero-requires : tie.Need-first-nonzero-requires
-first-nonzero-requires c κs = search needs
+first-nonzero-requires c κs = omega arith
 
 same-length : tie.Need-same-length
-same-length c = search needs
+same-length c = omega arith
 
 returns : tie.Need-returns
 returns c =
@@ -20,13 +21,13 @@ returns c =
     seeded-no _ _ _ _ _ (f .first-nonzero .ensures) (f .before .before .before .clear .ensures) (c .if1 .taken)
 
 ratio-requires : tie.Need-ratio-requires
-ratio-requires c κs = search needs
+ratio-requires c κs = omega arith
 
 mul-inverse : tie.Need-mul-inverse
-mul-inverse c = search needs
+mul-inverse c = omega arith
 
 shared-slice-read-inverse : tie.Need-shared-slice-read-inverse
-shared-slice-read-inverse c = search needs
+shared-slice-read-inverse c = omega arith
 
 inverse-requires : tie.Need-inverse-requires
 inverse-requires c κs =
@@ -36,10 +37,10 @@ inverse-requires c κs =
     (s .pre .0, (c .before .ratio .ensures .1, f .first-nonzero .ensures .here (i .if1 .left)))
 
 mul-u : tie.Need-mul-u
-mul-u c = search needs
+mul-u c = omega arith
 
 slice-write-u : tie.Need-slice-write-u
-slice-write-u c = search needs
+slice-write-u c = omega arith
 
 same-length-2 : tie.Need-same-length-2
 same-length-2 c = search needs

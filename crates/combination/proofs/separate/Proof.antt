@@ -1,4 +1,5 @@
 -- `combination::separate` meets its contract: what `seed` makes is 1 at t, and `up` keeps that. Assumes nothing.
+use native.Mathlib.Omega.{arith}
 use borrow.Author.Needs.{needs}
 use Rattle.combination.proofs.Steps.{separated-no, separated-yes}
 use Rattle.combination.proofs.separate.Statement.{statement}
@@ -11,7 +12,7 @@ up-requires : tie.Need-up-requires
 up-requires c κs = search needs
 
 same-length : tie.Need-same-length
-same-length c = search needs
+same-length c = omega arith
 
 returns : tie.Need-returns
 returns c =
@@ -19,7 +20,7 @@ returns c =
     separated-yes _ _ _ _ _ _ _ _ _ (i .before .before .before .seed .ensures) (i .if1 .taken) (c .before .before .up .ensures)
 
 same-length-2 : tie.Need-same-length-2
-same-length-2 c = search needs
+same-length-2 c = omega arith
 
 returns-2 : tie.Need-returns-2
 returns-2 c = separated-no _ _ _ _ _ _ _ _ (c .before .before .before .seed .ensures) (c .if1 .left)

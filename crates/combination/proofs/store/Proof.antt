@@ -2,7 +2,6 @@
 use mathlib.Core.Path.{refl}
 use Prim.Native.Nat.{_-_, _*_}
 use native.Mathlib.Omega.{arith}
-use borrow.Author.Needs.{needs}
 use Rattle.linear.specs.Flat.{place}
 use Rattle.lists.proofs.Fill.{Filled, fill-start, fill-turn}
 use Rattle.combination.proofs.store.Statement.{statement}
@@ -15,37 +14,37 @@ abbrev μ-loop : tie.MeasureT-loop
 μ-loop k n x a₀ at i₀ a i = n - i
 
 mul-at : tie.Need-mul-at Inv-loop μ-loop
-mul-at c = search needs
+mul-at c = omega arith
 
 loop-holds : tie.Need-loop-holds Inv-loop μ-loop
 loop-holds c = fill-start _ _ _ _
 
 mul-a : tie.Need-mul-a Inv-loop μ-loop
-mul-a c = search needs
+mul-a c = omega arith
 
 shared-slice-read-a : tie.Need-shared-slice-read-a Inv-loop μ-loop
-shared-slice-read-a c = search needs
+shared-slice-read-a c = omega arith
 
 add-a : tie.Need-add-a Inv-loop μ-loop
-add-a c = search needs
+add-a c = omega arith
 
 mul-a-2 : tie.Need-mul-a-2 Inv-loop μ-loop
-mul-a-2 c = search needs
+mul-a-2 c = omega arith
 
 slice-write-a : tie.Need-slice-write-a Inv-loop μ-loop
-slice-write-a c = search needs
+slice-write-a c = omega arith
 
 add-i : tie.Need-add-i Inv-loop μ-loop
-add-i c = search needs
+add-i c = omega arith
 
 loop-less : tie.Need-loop-less Inv-loop μ-loop
-loop-less c = search needs
+loop-less c = omega arith
 
 loop-again : tie.Need-loop-again Inv-loop μ-loop
 loop-again c = fill-turn _ _ _ _ _ _ _ _ (c .before .before .loop .inv) (c .before .loop-test .taken) (omega arith) refl refl
 
 same-length : tie.Need-same-length Inv-loop μ-loop
-same-length c = search needs
+same-length c = omega arith
 
 returns : tie.Need-returns Inv-loop μ-loop
 returns c =

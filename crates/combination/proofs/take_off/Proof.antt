@@ -3,7 +3,6 @@
 use mathlib.Core.Path.{_≡_, ap, _∙_}
 use Prim.Native.Nat.{ℕ, _-_, _*_, _+_, _%_}
 use native.Mathlib.Omega.{arith}
-use borrow.Author.Needs.{needs}
 use Rattle.linear.specs.Flat.{place, entry}
 use Rattle.lists.proofs.Fill.{Filled, fill-start, fill-turn, filled}
 use Rattle.combination.proofs.take_off.Statement.{statement}
@@ -16,43 +15,43 @@ abbrev μ-loop : tie.MeasureT-loop
 μ-loop p k n f b x₀ at g i₀ x i = n - i
 
 mul-at : tie.Need-mul-at Inv-loop μ-loop
-mul-at c = search needs
+mul-at c = omega arith
 
 sub-g : tie.Need-sub-g Inv-loop μ-loop
-sub-g c = search needs
+sub-g c = omega arith
 
 loop-holds : tie.Need-loop-holds Inv-loop μ-loop
 loop-holds c = fill-start _ _ _ _
 
 mul-mul-add : tie.Need-mul-mul-add Inv-loop μ-loop
-mul-mul-add c = search needs
+mul-mul-add c = omega arith
 
 slice-read-mul-add : tie.Need-slice-read-mul-add Inv-loop μ-loop
-slice-read-mul-add c = search needs
+slice-read-mul-add c = omega arith
 
 add-mul-add : tie.Need-add-mul-add Inv-loop μ-loop
-add-mul-add c = search needs
+add-mul-add c = omega arith
 
 mul-mul-add-2 : tie.Need-mul-mul-add-2 Inv-loop μ-loop
-mul-mul-add-2 c = search needs
+mul-mul-add-2 c = omega arith
 
 shared-slice-read-mul-add : tie.Need-shared-slice-read-mul-add Inv-loop μ-loop
-shared-slice-read-mul-add c = search needs
+shared-slice-read-mul-add c = omega arith
 
 mul-add-requires : tie.Need-mul-add-requires Inv-loop μ-loop
-mul-add-requires c κs = search needs
+mul-add-requires c κs = omega arith
 
 mul-x : tie.Need-mul-x Inv-loop μ-loop
-mul-x c = search needs
+mul-x c = omega arith
 
 slice-write-x : tie.Need-slice-write-x Inv-loop μ-loop
-slice-write-x c = search needs
+slice-write-x c = omega arith
 
 add-i : tie.Need-add-i Inv-loop μ-loop
-add-i c = search needs
+add-i c = omega arith
 
 loop-less : tie.Need-loop-less Inv-loop μ-loop
-loop-less c = search needs
+loop-less c = omega arith
 
 loop-again : tie.Need-loop-again Inv-loop μ-loop
 loop-again c =
@@ -63,7 +62,7 @@ loop-again c =
     (c .mul-add .ensures .0 ∙ ap (λ (z : ℕ). (z + (s .p - s .f) * entry (s .n) (s .b .now) (s .k) (l .i)) % s .p) old)
 
 same-length : tie.Need-same-length Inv-loop μ-loop
-same-length c = search needs
+same-length c = omega arith
 
 returns : tie.Need-returns Inv-loop μ-loop
 returns c =

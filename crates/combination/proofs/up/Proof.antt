@@ -2,7 +2,6 @@
 -- proofs/Dual.antt is its turn). Assumes nothing.
 use Prim.Native.Nat.{_-_}
 use native.Mathlib.Omega.{arith}
-use borrow.Author.Needs.{needs}
 use Rattle.combination.specs.Steps.{Raised}
 use Rattle.combination.proofs.Steps.{raised-start, raised-turn, raised-end}
 use Rattle.lists.proofs.Store.{row-fits}
@@ -26,10 +25,10 @@ cancel-requires c κs =
     (s .pre .0 .0, omega arith, omega arith, l .loop .inv .len)
 
 add-k : tie.Need-add-k Inv-loop μ-loop
-add-k c = search needs
+add-k c = omega arith
 
 loop-less : tie.Need-loop-less Inv-loop μ-loop
-loop-less c = search needs
+loop-less c = omega arith
 
 loop-again : tie.Need-loop-again Inv-loop μ-loop
 loop-again c =
@@ -39,7 +38,7 @@ loop-again c =
     raised-turn _ _ _ _ _ _ _ _ _ _ (q .1) (t .loop-test .taken) (l .loop .inv) (c .before .before .cancel .ensures)
 
 same-length : tie.Need-same-length Inv-loop μ-loop
-same-length c = search needs
+same-length c = omega arith
 
 returns : tie.Need-returns Inv-loop μ-loop
 returns c = raised-end _ _ _ _ _ _ _ _ (c .before .loop .inv) (c .loop-test .left)
