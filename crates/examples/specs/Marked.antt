@@ -1,7 +1,6 @@
 -- Document 01, "Marked examples": the scheme S, and which of its rows belong to a set.
 -- Assumes nothing.
 use mathlib.Core.Bool.{Bool}
-use mathlib.Core.List.{List, [], _∷_}
 use Prim.Native.Nat.{ℕ, zero, suc, _*_, _/_, _%_, _^_}
 use lib.Dec.{eqb}
 
@@ -11,11 +10,6 @@ S k zero = 1
 S k (suc zero) = suc k
 S k (suc (suc j)) = suc k * suc k % 17
 
--- "participant i is in it when bit i - 1 is one", and owns row i.
+-- "participant i is in it when bit i - 1 is one", and in S owns row i.
 abbrev pub inSet : ℕ → ℕ → Bool
 inSet set k = eqb (set / 2 ^ k % 2) 1
-
--- The first n numbers of a vector.
-abbrev pub numbers : ℕ → (ℕ → ℕ) → List ℕ
-numbers zero f = []
-numbers (suc n) f = f zero ∷ numbers n (λ i. f (suc i))
