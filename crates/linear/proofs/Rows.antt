@@ -89,13 +89,16 @@ module _ (p : ℕ) (H : Prime p) (d f : ℕ) (E : ℕ → ℕ → ℕ) (chosen :
     one = ap (λ (x : ℕ). x % p) (times-target f z) ∙ one-mod (z 0) (c .first);
   }
 
-  -- An opening vector shows that the chosen rows are open, a witness that they are closed.
-  pub opening-open : (r : ℕ → ℕ) → OpeningVector p d (suc f) E chosen r → Open p d (suc f) E chosen
-  opening-open r o = (r, (λ k l q. o .only k l (unkept k l q (o .kept k) refl)), o .gives)
+  -- An opening vector is 0 outside the chosen rows and shows that they are open; a witness shows that they are closed.
+  pub opening-outside : (r : ℕ → ℕ) → OpeningVector p d (suc f) E chosen r → (k : ℕ) → k < d → chosen k ≡ false → r k ≡ 0
+  opening-outside r o k l q = o .only k l (go (o .kept k) refl)
     where
-      unkept : (k : ℕ) → k < d → chosen k ≡ false → (b : Bool) → o .kept k ≡ b → o .kept k ≡ false
-      unkept k l q true w = absurd (true≢false (sym (o .rule k l .0 w .0) ∙ q))
-      unkept k l q false w = w
+      go : (b : Bool) → o .kept k ≡ b → o .kept k ≡ false
+      go true w = absurd (true≢false (sym (o .rule k l .0 w .0) ∙ q))
+      go false w = w
+
+  pub opening-open : (r : ℕ → ℕ) → OpeningVector p d (suc f) E chosen r → Open p d (suc f) E chosen
+  opening-open r o = (r, opening-outside r o, o .gives)
 
   pub witness-closed : (z : ℕ → ℕ) → Witness p d (suc f) E chosen z → Closed p d (suc f) E chosen
   witness-closed z c o = let w = comb-mask p (suc f) E chosen chosen d (λ k l q. q) target o in

@@ -1,0 +1,17 @@
+-- What the steps of joining leave. No public contract cites this file.
+-- Assumes nothing.
+use mathlib.Core.Path.{_≡_}
+use mathlib.Core.Bool.{Bool, cond}
+use mathlib.Core.List.{List}
+use Prim.Native.Nat.{ℕ, _<_, _+_, _*_}
+use lib.ListN.{length}
+use Rattle.linear.specs.Flat.{place, entry}
+
+-- a holds the e columns over the chosen rows, one after another, d places each, with 0 at the rows that are not chosen.
+pub record Turned (d e : ℕ) (chosen : ℕ → Bool) (entries a : List ℕ) : Type 0 where
+  pub at : (j k : ℕ) → j < e → k < d → place a (j * d + k) ≡ cond (chosen k) (entry e entries k j) 0
+
+-- x holds the shares at the chosen rows, and 0 at the others.
+pub record MaskedTo (d : ℕ) (chosen : ℕ → Bool) (shares x : List ℕ) : Type 0 where
+  pub len : length x ≡ d
+  pub at : (k : ℕ) → k < d → place x k ≡ cond (chosen k) (place shares k) 0
