@@ -1,12 +1,12 @@
 -- The chosen rows as a table with zeros for the other rows. A zero row is never kept, so a marking by the document's rule for the chosen
 -- rows is one by the kept rule for this table, and back; the same for combinations, opening vectors and the number of kept rows.
 -- Assumes nothing.
-use mathlib.Core.Path.{_≡_, refl, sym, ap, _∙_, subst, subst⁻¹}
-use mathlib.Core.Bool.{Bool, true, false, cond, true≢false, false≢true}
-use Prim.Native.Nat.{ℕ, zero, suc, _<_, _+_, _*_, _%_}
+use mathlib.Core.Path.{_≡_, refl, sym, ap, _∙_}
+use mathlib.Core.Bool.{Bool, true, false, cond}
+use Prim.Native.Nat.{ℕ, zero, suc, _<_, _*_, _%_}
 use native.Mathlib.Nat.{mul-comm, zero-mod}
 use native.Mathlib.Omega.{arith}
-use Rattle.linear.specs.Combination.{total, AddUpTo, CombinationOf, KeptRule, KeptCount}
+use Rattle.linear.specs.Combination.{total, CombinationOf, KeptRule, KeptCount}
 use Rattle.linear.specs.Question.{Coefficients}
 use Rattle.linear.specs.Rows.{target, KeptRows, OpeningVector, Rank}
 use Rattle.linear.proofs.Carry.{total-cong}
