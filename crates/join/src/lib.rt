@@ -12,7 +12,7 @@ ghost use Rattle.linear.specs.Rows.{OpeningVector, Closed};
 ghost use Rattle.rows.specs.Chosen.{bit};
 ghost use Rattle.scheme.specs.Refusal.{readBelow, joinRefusal};
 ghost use Rattle.join.specs.Says.{JoinSays};
-ghost use Rattle.join.specs.Steps.{Turned, MaskedTo};
+ghost use Rattle.join.specs.Steps.{Turned, MaskedTo, FitsRows};
 
 // The code, or a refusal with the paper's number.
 pub enum Joined {
@@ -121,4 +121,22 @@ fn weighted(p: u32, r: &[u32], shares: &[u32]) -> u32
         k += 1;
     }
     acc
+}
+
+// Whether some list b gives the shares at the chosen rows: the one question for the columns, with the shares as target.
+fn fits(p: u32, d: usize, e: usize, chosen: u32, entries: &[u32], shares: &[u32]) -> bool
+    requires { ⌜ Prime p ⌝ }
+    requires { ⌜ (1 ≤ d) × (d ≤ 32) × (1 ≤ e) × (e ≤ 12) × (length (now entries) ≡ d * e) × (length (now shares) ≡ d) ⌝ }
+    ensures yes { λ r. ⌜ (r ≡ true → FitsRows p d e (entry e (now (entries .entry))) (bit chosen) (place (now (shares .entry)))) ⌝ }
+    ensures no { λ r. ⌜ (r ≡ false → FitsRows p d e (entry e (now (entries .entry))) (bit chosen) (place (now (shares .entry))) → ⊥) ⌝ }
+{
+    false
+}
+
+// Joins a set's shares. Wrong answers that the contract rules out: a number for shares that no dealing gives; 12 for a closed set; a sum that
+// takes in a share outside the set's rows.
+pub fn join(s: Shape, labels: &[u32], entries: &[u32], set: u32, shares: &[u32]) -> Joined
+    ensures { λ a. ⌜ JoinSays s (now (labels .entry)) (now (entries .entry)) set (now (shares .entry)) a ⌝ }
+{
+    Joined::Refused(0)
 }
