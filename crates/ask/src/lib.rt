@@ -1,6 +1,5 @@
 // The set question: is the set open? With the vector r or the witness z.
 use scheme::Shape;
-
 ghost use mathlib.Core.Path.{_≡_};
 ghost use mathlib.Core.Bool.{cond};
 ghost use Prim.Native.Nat.{ℕ, _<_, _≤_};
@@ -43,7 +42,14 @@ pub fn chosen_rows(set: u32, labels: &[u32]) -> u32
     chosen
 }
 
-fn ask_refusal(s: Shape, labels: &[u32], entries: &[u32], set: u32, rplaces: usize, zplaces: usize) -> u32
+fn ask_refusal(
+    s: Shape,
+    labels: &[u32],
+    entries: &[u32],
+    set: u32,
+    rplaces: usize,
+    zplaces: usize,
+) -> u32
     ensures { λ r. ⌜ r ≡ askRefusal s (now (labels .entry)) (now (entries .entry)) set rplaces zplaces ⌝ }
 {
     let fits = scheme::both_same(rplaces, s.d, zplaces, s.e);
@@ -56,7 +62,14 @@ fn ask_refusal(s: Shape, labels: &[u32], entries: &[u32], set: u32, rplaces: usi
 
 // Is the set open? Wrong answers that the contract rules out: closed because the set has fewer rows than columns; open because its rows are
 // independent, or many; a witness that begins with 0.
-pub fn ask(s: Shape, labels: &[u32], entries: &[u32], set: u32, r: &mut [u32], z: &mut [u32]) -> Verdict
+pub fn ask(
+    s: Shape,
+    labels: &[u32],
+    entries: &[u32],
+    set: u32,
+    r: &mut [u32],
+    z: &mut [u32],
+) -> Verdict
     ensures { λ a. ⌜ AskSays s (now (labels .entry)) (now (entries .entry)) set (now (r .entry)) (now (z .entry)) a (now (r .exit)) (now (z .exit)) ⌝ }
 {
     let bad = ask_refusal(s, labels, entries, set, r.len(), z.len());

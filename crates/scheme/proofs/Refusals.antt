@@ -1,7 +1,7 @@
 -- What a refusal that is not 0, and one that is 0, says of the tests behind it; and what holds of a scheme that is not refused.
 -- Assumes nothing.
-use mathlib.Core.Path.{_≡_, refl, sym, subst⁻¹, _∙_}
-use mathlib.Core.Bool.{Bool, true, false, _&&_}
+use mathlib.Core.Path.{_≡_, ap, refl, sym, subst⁻¹, _∙_}
+use mathlib.Core.Bool.{Bool, true, false}
 use mathlib.Core.List.{List}
 use mathlib.Core.Logic.{⊎-elim}
 use Prim.Native.Nat.{ℕ, zero, suc, _*_, _/_, _^_, _≤_, _<_}
@@ -165,3 +165,11 @@ module _ (s : Shape) (labels entries : List ℕ) (fits : Bool) (h : refusalOf s 
         label = λ k u. within-true 1 (s .n) _ (each-at _ labels (c .0) k (omega arith));
         entry = below-at (s .p) entries (omega arith) (c .1);
       }
+
+-- A call's refusal from its two parts: what every call refuses, with what the code found of the lengths, and what comes after 7.
+module _ (s : Shape) (labels entries : List ℕ) (fits f : Bool) (more r : ℕ) (q : f ≡ fits) (e : r ≡ refusalOf s labels entries f 0) where
+  pub call-stands : (r ≡ 0 → ⊥) → r ≡ refusalOf s labels entries fits more
+  call-stands h = stands more (e ∙ ap (λ b. refusalOf s labels entries b 0) q) h ∙ sym (refusal-more s labels entries fits more)
+
+  pub call-more : r ≡ 0 → more ≡ refusalOf s labels entries fits more
+  call-more h = sym (refusal-more s labels entries fits more ∙ ap (λ k. orElse k more) (sym (e ∙ ap (λ b. refusalOf s labels entries b 0) q) ∙ h))

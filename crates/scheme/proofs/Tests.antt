@@ -5,10 +5,11 @@ use mathlib.Core.Bool.{Bool, true, false, not, _&&_, false≢true}
 use mathlib.Core.List.{List, [], _∷_}
 use Prim.Native.Nat.{ℕ, zero, suc, _+_, _≤_, _<_}
 use native.Mathlib.Nat.{le-of-suc-le-suc, not-suc-le-zero}
+use lib.Dec.{ltb}
 use lib.ListN.{length, drop, getD, drop-of-length-le}
-use borrow.Author.Tests.{leb-true, not-true, not-false}
+use borrow.Author.Tests.{leb-true, lt-ltb, le-ltb, not-true, not-false}
 use Rattle.residue.proofs.Moduli.{drop-next}
-use Rattle.scheme.specs.Tests.{within, each}
+use Rattle.scheme.specs.Tests.{within, each, eachBelow}
 
 pub and-true : (a b : Bool) → (a && b) ≡ true → (a ≡ true) × (b ≡ true)
 and-true true b h = (refl, h)
@@ -30,13 +31,23 @@ module _ (test : ℕ → Bool) (xs : List ℕ) (i : ℕ) where
   unfolding each
   each-stop inv h t = sym (sym inv ∙ ap (each test) (drop-next xs i h) ∙ simp t)
 
-  pub each-go : each test (drop i xs) ≡ each test xs → i < length xs → test (getD xs i 0) ≡ true → each test (drop (i + 1) xs) ≡ each test xs
+  pub each-go : each test (drop i xs) ≡ each test xs → i < length xs → test (getD xs i 0) ≡ true
+      → each test (drop (i + 1) xs) ≡ each test xs
   unfolding each
   each-go inv h t = sym (sym inv ∙ ap (each test) (drop-next xs i h) ∙ simp t)
 
   pub each-end : each test (drop i xs) ≡ each test xs → length xs ≤ i → true ≡ each test xs
   unfolding each
   each-end inv h = ap (each test) (sym (drop-of-length-le xs h)) ∙ inv
+
+-- The same where the test is "below p".
+module _ (p : ℕ) (xs : List ℕ) (i : ℕ) where
+  pub below-stop : eachBelow p (drop i xs) ≡ eachBelow p xs → i < length xs → p ≤ getD xs i 0 → false ≡ eachBelow p xs
+  below-stop inv h l = each-stop (λ x. ltb x p) xs i inv h (le-ltb (getD xs i 0) p l)
+
+  pub below-go : eachBelow p (drop i xs) ≡ eachBelow p xs → i < length xs → getD xs i 0 < p
+      → eachBelow p (drop (i + 1) xs) ≡ eachBelow p xs
+  below-go inv h l = each-go (λ x. ltb x p) xs i inv h (lt-ltb (getD xs i 0) p l)
 
 -- A test that is a call, `if !f(..)`: what it says where the branch is taken, and where it is left.
 pub failed : {r t : Bool} → r ≡ t → not r ≡ true → t ≡ false

@@ -1,21 +1,21 @@
 -- The witness pairs the random lists for one code with those for another: a map, its inverse, both compositions the identity, and the
 -- shares at the chosen rows are the same in each pair.
 -- Assumes nothing.
-use mathlib.Core.Path.{_≡_, refl, sym, ap, ap₂, _∙_}
+use mathlib.Core.Path.{_≡_, refl, sym, ap, _∙_}
 use mathlib.Core.Bool.{Bool, true}
-use mathlib.Core.List.{List, [], _∷_}
-use Prim.Native.Nat.{ℕ, zero, suc, _<_, _≤_, _+_, _-_, _*_, _%_, _/_}
-use native.Mathlib.Nat.{mod-lt, mod-mod, mod-eq-of-lt, mod-add-mod, add-mod-mod, zero-mod, div-add-mod', le-of-suc-le-suc}
+use mathlib.Core.List.{List, _∷_}
+use Prim.Native.Nat.{ℕ, zero, suc, _<_, _+_, _-_, _*_, _%_, _/_}
+use native.Mathlib.Nat.{mod-lt, mod-eq-of-lt, mod-add-mod, add-mod-mod, zero-mod, div-add-mod', le-of-suc-le-suc}
 use native.Mathlib.Omega.{arith}
 use lib.ListN.{length, getD}
 use lib.Seq.{ext-getD}
-use Rattle.algebra.specs.Sum.{sum, dot}
+use Rattle.algebra.specs.Sum.{dot}
 use Rattle.algebra.proofs.Ring.{mul-zero, zero-r}
 use Rattle.algebra.proofs.Sum.{sum-cong, sum-lin, dot-comm}
 use Rattle.residue.specs.Prime.{Prime}
 use Rattle.residue.specs.Residue.{F, res, _⊕_, _⊗_}
-use Rattle.residue.proofs.Modulo.{mod-by, mul-mod-mod}
-use Rattle.residue.proofs.Field.{residueRing, residues, positive, res-mod, res-add, res-mul, res-same}
+use Rattle.residue.proofs.Modulo.{mod-by}
+use Rattle.residue.proofs.Field.{residueRing, positive, res-mod, res-add, res-mul, res-same}
 use Rattle.linear.specs.Combination.{total}
 use Rattle.linear.specs.Flat.{place, listOf}
 use Rattle.linear.specs.Rows.{Witness}
@@ -64,9 +64,9 @@ module _ (p : ℕ) (H : Prime p) where
     pub partner-back : (first second : ℕ) (xs : List ℕ) → first < p → second < p → RandomList p e xs → partner p z second first (partner p z first second xs) ≡ xs
     partner-back first second xs lf ls h = ext-getD 0 (partner p z second first ys) xs (partner-length second first ys ∙ partner-length first second xs)
         (λ j l. let n = partner-length second first ys in let m = partner-length first second xs in
-          partner-at second first ys j (omega arith)
-          ∙ ap (λ (y : ℕ). (y + z (suc j) * minus p first second) % p) (partner-at first second xs j (omega arith))
-          ∙ step-back (place xs j) (z (suc j)) (minus p second first) (minus p first second) (h .below j (omega arith)) (minus-back first second lf ls))
+        partner-at second first ys j (omega arith)
+        ∙ ap (λ (y : ℕ). (y + z (suc j) * minus p first second) % p) (partner-at first second xs j (omega arith))
+        ∙ step-back (place xs j) (z (suc j)) (minus p second first) (minus p first second) (h .below j (omega arith)) (minus-back first second lf ls))
       where
         ys : List ℕ
         ys = partner p z first second xs
@@ -76,8 +76,8 @@ module _ (p : ℕ) (H : Prime p) where
     moved : (first second : ℕ) (xs : List ℕ) → first < p → second < p → RandomList p (suc f) xs → (j : ℕ) → j < suc f
         → res p H (place (second ∷ partner p z first second xs) j) ≡ _⊕_ p H (res p H (place (first ∷ xs) j)) (_⊗_ p H (res p H (minus p second first)) (res p H (z j)))
     moved first second xs lf ls h zero l = res-same p H second (first + minus p second first * z 0)
-          (sym (ap (λ (y : ℕ). (first + minus p second first * y) % p) (c .first) ∙ ap (λ (y : ℕ). (first + y) % p) (omega arith)
-            ∙ add-mod-mod first (second + (p - first)) p ∙ mod-by p (first + (second + (p - first))) second 0 1 (omega arith)))
+        (sym (ap (λ (y : ℕ). (first + minus p second first * y) % p) (c .first) ∙ ap (λ (y : ℕ). (first + y) % p) (omega arith)
+        ∙ add-mod-mod first (second + (p - first)) p ∙ mod-by p (first + (second + (p - first))) second 0 1 (omega arith)))
         ∙ sym (res-add p H first (minus p second first * z 0)) ∙ ap (λ w. _⊕_ p H (res p H first) w) (sym (res-mul p H (minus p second first) (z 0)))
     moved first second xs lf ls h (suc j) l = ap (res p H) (partner-at (suc f) z first second xs j (omega (arith, h .len)))
         ∙ res-mod p H (place xs j + z (suc j) * minus p second first)
@@ -90,8 +90,8 @@ module _ (p : ℕ) (H : Prime p) where
         (res-dot p H (suc f) (E k) (place (second ∷ partner p z first second xs))
         ∙ dot-comm (residueRing p H) (suc f) row (λ j. res p H (place (second ∷ partner p z first second xs) j))
         ∙ sum-cong (residueRing p H) (suc f) (λ j. _⊗_ p H (res p H (place (second ∷ partner p z first second xs) j)) (row j))
-          (λ j. _⊗_ p H (_⊕_ p H (res p H (place (first ∷ xs) j)) (_⊗_ p H a (res p H (z j)))) (row j))
-          (λ j l. ap (λ w. _⊗_ p H w (row j)) (moved first second xs lf ls h j l))
+        (λ j. _⊗_ p H (_⊕_ p H (res p H (place (first ∷ xs) j)) (_⊗_ p H a (res p H (z j)))) (row j))
+        (λ j l. ap (λ w. _⊗_ p H w (row j)) (moved first second xs lf ls h j l))
         ∙ sum-lin (residueRing p H) (suc f) a (λ j. res p H (place (first ∷ xs) j)) (λ j. res p H (z j)) row
         ∙ ap (λ w. _⊕_ p H (dot (residueRing p H) (suc f) (λ j. res p H (place (first ∷ xs) j)) row) (_⊗_ p H a w)) killed
         ∙ ap (λ w. _⊕_ p H (dot (residueRing p H) (suc f) (λ j. res p H (place (first ∷ xs) j)) row) w) (mul-zero (residueRing p H) a)
@@ -101,7 +101,9 @@ module _ (p : ℕ) (H : Prime p) where
       where
         a : F p
         a = res p H (minus p second first)
+
         row : ℕ → F p
         row j = res p H (E k j)
+
         killed : dot (residueRing p H) (suc f) (λ j. res p H (z j)) row ≡ res p H 0
         killed = dot-comm (residueRing p H) (suc f) (λ j. res p H (z j)) row ∙ dot-iff p H (suc f) (E k) z 0 .0 (c .kills k lk q ∙ sym (zero-mod p))

@@ -1,12 +1,11 @@
 -- The opening vector gives the code back from every dealing; the joined number looks at no share outside the set's rows.
 -- Assumes nothing.
-use mathlib.Core.Path.{_≡_, refl, sym, ap, ap₂, _∙_}
-use mathlib.Core.Bool.{Bool, true, false, true≢false}
-use mathlib.Core.List.{List}
-use Prim.Native.Nat.{ℕ, zero, suc, _<_, _+_, _*_, _%_}
+use mathlib.Core.Path.{_≡_, refl, sym, ap, _∙_}
+use mathlib.Core.Bool.{Bool, true, false}
+use Prim.Native.Nat.{ℕ, suc, _<_, _*_, _%_}
 use native.Mathlib.Nat.{mod-eq-of-lt}
 use native.Mathlib.Omega.{arith}
-use Rattle.algebra.specs.Sum.{sum, dot}
+use Rattle.algebra.specs.Sum.{dot}
 use Rattle.algebra.proofs.Sum.{sum-cong, dot-comm}
 use Rattle.residue.specs.Prime.{Prime}
 use Rattle.residue.specs.Residue.{res, _⊗_}
@@ -26,8 +25,8 @@ module _ (p : ℕ) (H : Prime p) (d f : ℕ) (E : ℕ → ℕ → ℕ) (chosen :
   pub weighted-shares : (r b : ℕ → ℕ) → OpeningVector p d (suc f) E chosen r → total d (λ k. r k * share b k) % p ≡ b 0 % p
   weighted-shares r b o = ap (λ a. a .0) (res-dot p H d r (share b)
       ∙ sum-cong (residueRing p H) d (λ k. _⊗_ p H (res p H (r k)) (res p H (share b k)))
-        (λ k. _⊗_ p H (res p H (r k)) (dot (residueRing p H) (suc f) (λ j. res p H (b j)) (W p H (suc f) E k)))
-        (λ k l. ap (λ z. _⊗_ p H (res p H (r k)) z) (as-dot k))
+      (λ k. _⊗_ p H (res p H (r k)) (dot (residueRing p H) (suc f) (λ j. res p H (b j)) (W p H (suc f) E k)))
+      (λ k l. ap (λ z. _⊗_ p H (res p H (r k)) z) (as-dot k))
       ∙ recover (residues p H) (suc f) (W p H (suc f) E) d (λ j. res p H (target j)) (λ j. res p H (b j)) ((λ k. res p H (r k)), adds-up p H (suc f) E d r target (o .gives))
       ∙ sym (res-dot p H (suc f) b target) ∙ ap (res p H) (times-target f b))
     where

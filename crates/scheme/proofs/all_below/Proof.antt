@@ -4,9 +4,8 @@ use mathlib.Core.Path.{_≡_, refl}
 use Prim.Native.Nat.{_≤_, _-_}
 use native.Mathlib.Omega.{arith}
 use lib.ListN.{length, drop}
-use borrow.Author.Tests.{lt-ltb, le-ltb}
 use Rattle.scheme.specs.Tests.{eachBelow}
-use Rattle.scheme.proofs.Tests.{each-stop, each-go, each-end}
+use Rattle.scheme.proofs.Tests.{each-end, below-stop, below-go}
 use Rattle.scheme.proofs.all_below.Statement.{statement}
 use Rattle.scheme.proofs.all_below.Tie as tie
 
@@ -26,7 +25,9 @@ shared-slice-read-if1 : tie.Need-shared-slice-read-if1 Inv-loop μ-loop
 shared-slice-read-if1 c = omega arith
 
 returns : tie.Need-returns Inv-loop μ-loop
-returns c = each-stop _ _ (c .before .before .before .loop .i) (c .before .before .before .loop .inv .1) (omega arith) (le-ltb _ _ (c .if1 .taken))
+returns c =
+    let l = c .before .before .before .loop in
+    below-stop _ _ (l .i) (l .inv .1) (omega arith) (omega arith)
 
 add-i : tie.Need-add-i Inv-loop μ-loop
 add-i c = omega arith
@@ -35,7 +36,9 @@ loop-less : tie.Need-loop-less Inv-loop μ-loop
 loop-less c = omega arith
 
 loop-again : tie.Need-loop-again Inv-loop μ-loop
-loop-again c = (omega arith, each-go _ _ (c .before .before .before .loop .i) (c .before .before .before .loop .inv .1) (omega arith) (lt-ltb _ _ (c .if1 .left)))
+loop-again c =
+    let l = c .before .before .before .loop in
+    (omega arith, below-go _ _ (l .i) (l .inv .1) (omega arith) (omega arith))
 
 returns-2 : tie.Need-returns-2 Inv-loop μ-loop
 returns-2 c = each-end _ _ _ (c .before .loop .inv .1) (c .loop-test .left)

@@ -26,10 +26,14 @@ shared-slice-read-x : tie.Need-shared-slice-read-x Inv-loop μ-loop
 shared-slice-read-x c = omega arith
 
 returns : tie.Need-returns Inv-loop μ-loop
-returns c = each-stop _ _ (c .before .before .before .loop .i) (c .before .before .before .loop .inv .1) (omega arith) (simp (lt-leb _ _ (c .if1 .taken)))
+returns c =
+    let l = c .before .before .before .loop in
+    each-stop _ _ (l .i) (l .inv .1) (omega arith) (simp (lt-leb _ _ (c .if1 .taken)))
 
 returns-2 : tie.Need-returns-2 Inv-loop μ-loop
-returns-2 c = each-stop _ _ (c .before .before .before .before .loop .i) (c .before .before .before .before .loop .inv .1) (omega arith) (simp (le-leb _ _ (c .before .if1 .left), lt-leb _ _ (c .if2 .taken)))
+returns-2 c =
+    let l = c .before .before .before .before .loop in
+    each-stop _ _ (l .i) (l .inv .1) (omega arith) (simp (le-leb _ _ (c .before .if1 .left), lt-leb _ _ (c .if2 .taken)))
 
 add-i : tie.Need-add-i Inv-loop μ-loop
 add-i c = omega arith
@@ -38,7 +42,9 @@ loop-less : tie.Need-loop-less Inv-loop μ-loop
 loop-less c = omega arith
 
 loop-again : tie.Need-loop-again Inv-loop μ-loop
-loop-again c = (omega arith, each-go _ _ (c .before .before .before .before .loop .i) (c .before .before .before .before .loop .inv .1) (omega arith) (simp (le-leb _ _ (c .before .if1 .left), le-leb _ _ (c .if2 .left))))
+loop-again c =
+    let l = c .before .before .before .before .loop in
+    (omega arith, each-go _ _ (l .i) (l .inv .1) (omega arith) (simp (le-leb _ _ (c .before .if1 .left), le-leb _ _ (c .if2 .left))))
 
 returns-3 : tie.Need-returns-3 Inv-loop μ-loop
 returns-3 c = each-end _ _ _ (c .before .loop .inv .1) (c .loop-test .left)

@@ -18,14 +18,15 @@ all-below-requires c κs = tt
 returns-2 : tie.Need-returns-2
 unfolding contentRefusal
 returns-2 c =
-    let l = passed (c .before .before .before .all-within .ensures) (c .before .before .if1 .left) in
-    simp (l, failed (c .before .all-below .ensures) (c .if2 .taken))
+    let labels = passed (c .before .before .before .all-within .ensures) (c .before .before .if1 .left) in
+    simp (labels, failed (c .before .all-below .ensures) (c .if2 .taken))
 
 returns-3 : tie.Need-returns-3
 unfolding contentRefusal
-returns-3 c =
-    let l = passed (c .before .before .before .all-within .ensures) (c .before .before .if1 .left) in
-    simp (l, passed (c .before .all-below .ensures) (c .if2 .left))
+returns-3 c = simp (
+  passed (c .before .before .before .all-within .ensures) (c .before .before .if1 .left),
+  passed (c .before .all-below .ensures) (c .if2 .left),
+)
 
 pub content-refusal-spec : {M : Type 1} → statement M
 content-refusal-spec =

@@ -22,7 +22,8 @@ between-requires c κs = tt
 returns-2 : tie.Need-returns-2
 unfolding numbersRefusal
 returns-2 c =
-    let p = passed (c .before .before .before .before .is-modulus .ensures) (c .before .before .before .if1 .left) in
+    let a = c .before .before .before in
+    let p = passed (a .before .is-modulus .ensures) (a .if1 .left) in
     simp (p, failed (c .before .between .ensures) (c .if2 .taken))
 
 between-requires-2 : tie.Need-between-requires-2
@@ -31,7 +32,8 @@ between-requires-2 c κs = tt
 returns-3 : tie.Need-returns-3
 unfolding numbersRefusal
 returns-3 c =
-    let p = passed (c .before .before .before .before .before .before .is-modulus .ensures) (c .before .before .before .before .before .if1 .left) in
+    let a = c .before .before .before .before .before in
+    let p = passed (a .before .is-modulus .ensures) (a .if1 .left) in
     let n = passed (c .before .before .before .between .ensures) (c .before .before .if2 .left) in
     simp (p, n, failed (c .before .between2 .ensures) (c .if3 .taken))
 
@@ -41,7 +43,8 @@ between-requires-3 c κs = tt
 returns-4 : tie.Need-returns-4
 unfolding numbersRefusal
 returns-4 c =
-    let p = passed (c .before .before .before .before .before .before .before .before .is-modulus .ensures) (c .before .before .before .before .before .before .before .if1 .left) in
+    let a = c .before .before .before .before .before .before .before in
+    let p = passed (a .before .is-modulus .ensures) (a .if1 .left) in
     let n = passed (c .before .before .before .before .before .between .ensures) (c .before .before .before .before .if2 .left) in
     let d = passed (c .before .before .before .between2 .ensures) (c .before .before .if3 .left) in
     simp (p, n, d, failed (c .before .between3 .ensures) (c .if4 .taken))
@@ -49,7 +52,8 @@ returns-4 c =
 returns-5 : tie.Need-returns-5
 unfolding numbersRefusal
 returns-5 c =
-    let p = passed (c .before .before .before .before .before .before .before .before .is-modulus .ensures) (c .before .before .before .before .before .before .before .if1 .left) in
+    let a = c .before .before .before .before .before .before .before in
+    let p = passed (a .before .is-modulus .ensures) (a .if1 .left) in
     let n = passed (c .before .before .before .before .before .between .ensures) (c .before .before .before .before .if2 .left) in
     let d = passed (c .before .before .before .between2 .ensures) (c .before .before .if3 .left) in
     simp (p, n, d, passed (c .before .between3 .ensures) (c .if4 .left))
