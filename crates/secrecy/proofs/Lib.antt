@@ -1,2 +1,3 @@
 pub mod Recover
 pub mod Pairing
+pub mod Handed

@@ -22,7 +22,7 @@ use Rattle.linear.specs.Rows.{Witness}
 use Rattle.linear.proofs.Carry.{dot-iff, res-dot}
 use Rattle.secrecy.specs.Pairing.{RandomList, minus, partner}
 
-list-length : (n : ℕ) (f : ℕ → ℕ) → length (listOf n f) ≡ n
+pub list-length : (n : ℕ) (f : ℕ → ℕ) → length (listOf n f) ≡ n
 list-length zero f = refl
 list-length (suc n) f = ap suc (list-length n (λ i. f (suc i)))
 
