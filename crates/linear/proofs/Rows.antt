@@ -16,7 +16,7 @@ use Rattle.linear.specs.Rows.{target, columnsOf, Open, Closed, OpeningVe
 use Rattle.linear.proofs.Masked.{rowsOf, total-zero, opening-mask, opening-unmask, rank-mask, comb-mask, kills-mask, kills-unmask}
 use Rattle.linear.proofs.Carry.{total-first}
 use Rattle.linear.proofs.Numbers as Question
-use Rattle.linear.proofs.Numbers.{coefficients-unique, count-unique, functional-none}
+use Rattle.linear.proofs.Numbers.{coefficients-unique, count-unique, functional-none, rule-same}
 use Rattle.linear.proofs.Kept.{count-none}
 
 -- A first factor that is 1 modulo p.
@@ -162,3 +162,24 @@ module _ (p : ℕ) (H : Prime p) (d f : ℕ) (E : ℕ → ℕ → ℕ) (chosen :
       small : (j : ℕ) → j < suc f → target j < p
       small zero l = H .two
       small (suc j) l = omega (arith, H .two)
+
+-- The marks of the chosen rows count only below d.
+module _ (p d e : ℕ) (E : ℕ → ℕ → ℕ) (b c : ℕ → Bool) (same : (k : ℕ) → k < d → b k ≡ c k) where
+  pub opening-same : (r : ℕ → ℕ) → OpeningVector p d e E b r → OpeningVector p d e E c r
+  opening-same r o = record {
+    kept = o .kept;
+    rule = λ k l. ((λ q. let w = o .rule k l .0 q in (sym (same k l) ∙ w .0, w .1)), λ w. o .rule k l .1 (same k l ∙ w .0, w .1));
+    below = o .below;
+    only = o .only;
+    gives = o .gives;
+  }
+
+  pub witness-same : (z : ℕ → ℕ) → Witness p d e E b z → Witness p d e E c z
+  witness-same z w = record {
+    kept = w .kept;
+    rule = rule-same p d (e - 1) (columnsOf E b) (columnsOf E c) (λ j k lj lk. ap (λ x. cond x (E k (suc j)) 0) (same k lk)) (w .kept) (w .rule);
+    below = w .below;
+    first = w .first;
+    kills = λ k l q. w .kills k l (same k l ∙ q);
+    only = w .only;
+  }

@@ -1,0 +1,107 @@
+-- What `ask` answers, from what the question of the chosen rows answers; and that it settles the outcome.
+-- Assumes nothing.
+use mathlib.Core.Path.{_≡_, refl, sym, ap, _∙_, subst}
+use mathlib.Core.Bool.{Bool, true, false, _&&_}
+use mathlib.Core.List.{List}
+use Prim.Native.Nat.{ℕ, suc, _<_, _≤_, _-_}
+use native.Mathlib.Omega.{arith}
+use lib.Dec.{eqb}
+use lib.ListN.{length, getD}
+use lib.Seq.{ext-getD}
+use borrow.Author.Tests.{eqb-true}
+use Rattle.linear.specs.Flat.{place, entry}
+use Rattle.linear.specs.Rows as Rows
+use Rattle.linear.proofs.Rows.{open-not-closed, opening-unique, witness-unique, opening-same, witness-same}
+use Rattle.rows.specs.declared.Answer.{Answer}
+use Rattle.rows.specs.Answered.{Answered}
+use Rattle.rows.specs.Chosen.{bit}
+use Rattle.scheme.specs.declared.Shape.{Shape}
+use Rattle.scheme.specs.Sets.{ofSet}
+use Rattle.scheme.specs.Refusal.{setRefusal, askRefusal}
+use Rattle.scheme.proofs.Refusals.{refusal-more, orElse-zero, Valid, valid, valid-fits, and-true}
+use Rattle.ask.specs.declared.Verdict.{Verdict}
+use Rattle.ask.specs.declared.Verdict.the-variants.{Open, Closed, Refused}
+use Rattle.ask.specs.Says.{AskSays}
+
+-- A call that is not refused is on a valid scheme.
+pub ask-valid : (s : Shape) (labels entries : List ℕ) (set m n : ℕ) → askRefusal s labels entries set m n ≡ 0 → Valid s labels entries
+ask-valid s labels entries set m n h = valid s labels entries _ (orElse-zero _ _ (sym (refusal-more s labels entries _ (setRefusal (s .n) set)) ∙ h) .0)
+
+-- And its result lists have their lengths.
+pub ask-lengths : (s : Shape) (labels entries : List ℕ) (set m n : ℕ) → askRefusal s labels entries set m n ≡ 0 → (m ≡ s .d) × (n ≡ s .e)
+ask-lengths s labels entries set m n h =
+    let f = valid-fits s labels entries (eqb m (s .d) && eqb n (s .e)) (orElse-zero _ _ (sym (refusal-more s labels entries _ (setRefusal (s .n) set)) ∙ h) .0) in
+    let w = and-true (eqb m (s .d)) (eqb n (s .e)) f in
+    (eqb-true m (s .d) (w .0), eqb-true n (s .e) (w .1))
+
+pub says-refused : (s : Shape) (labels entries : List ℕ) (set : ℕ) (r z : List ℕ) (k : ℕ) → k ≡ askRefusal s labels entries set (length r) (length z)
+    → (k ≡ 0 → ⊥) → AskSays s labels entries set r z (Refused k) r z
+unfolding AskSays
+says-refused s labels entries set r z k e h = (sym e, omega arith, refl, refl)
+
+-- The set's rows are rows of participants.
+pub labels-right : (s : Shape) (labels entries : List ℕ) → Valid s labels entries
+    → (length labels ≤ 32) × ((k : ℕ) → k < length labels → (1 ≤ getD labels k 0) × (getD labels k 0 ≤ 16))
+labels-right s labels entries v = (
+  omega (arith, v .labels-length, v .d-high),
+  λ k l. let w = v .label k (omega (arith, v .labels-length)) in
+      (w .0, omega (arith, w .1, v .n-high)),
+)
+
+module _ (s : Shape) (labels entries : List ℕ) (set : ℕ) (r z r′ z′ : List ℕ) (a : Answer) (chosen : ℕ)
+    (h : askRefusal s labels entries set (length r) (length z) ≡ 0) (same : (k : ℕ) → k < s .d → bit chosen k ≡ ofSet set labels k)
+    (an : Answered (s .p) (s .d) (s .e) chosen entries r z a r′ z′) where
+  pub says-open : a .opens ≡ true → AskSays s labels entries set r z Open r′ z′
+  unfolding AskSays
+  says-open q = let w = an .if-open q in
+      (h, opening-same (s .p) (s .d) (s .e) (entry (s .e) entries) (bit chosen) (ofSet set labels) same (place r′) (w .0), w .1, w .2)
+
+  pub says-closed : a .opens ≡ false → AskSays s labels entries set r z Closed r′ z′
+  unfolding AskSays
+  says-closed q = let w = an .if-closed q in
+      (h, witness-same (s .p) (s .d) (s .e) (entry (s .e) entries) (bit chosen) (ofSet set labels) same (place z′) (w .0), w .1, w .2)
+
+-- Two outcomes that the contract permits are equal: "One r only meets this", "One z only meets this".
+module _ (s : Shape) (labels entries : List ℕ) (set : ℕ) (r z : List ℕ) where
+  abbrev E : ℕ → ℕ → ℕ
+  E = entry (s .e) entries
+
+  abbrev chosen : ℕ → Bool
+  chosen = ofSet set labels
+
+  -- A valid scheme has a first column.
+  columns : (h : Valid s labels entries) → s .e ≡ suc (s .e - 1)
+  columns h = omega (arith, h .e-low)
+
+  pub settled : (a b : Verdict) (r₁ z₁ r₂ z₂ : List ℕ) → AskSays s labels entries set r z a r₁ z₁ → AskSays s labels entries set r z b r₂ z₂
+      → (a ≡ b) × (r₁ ≡ r₂) × (z₁ ≡ z₂)
+  unfolding AskSays
+  settled Open Open r₁ z₁ r₂ z₂ x y = let v = ask-valid s labels entries set (length r) (length z) (x .0) in (
+    refl,
+    ext-getD 0 r₁ r₂ (x .2 ∙ sym (y .2)) (λ k l.
+        opening-unique (s .p) (v .prime) (s .d) (s .e - 1) E chosen (place r₁) (place r₂)
+        (subst (λ (e : ℕ). Rows.OpeningVector (s .p) (s .d) e E chosen (place r₁)) (columns v) (x .1))
+        (subst (λ (e : ℕ). Rows.OpeningVector (s .p) (s .d) e E chosen (place r₂)) (columns v) (y .1)) k (omega (arith, x .2))),
+    x .3 ∙ sym (y .3),
+  )
+  settled Open Closed r₁ z₁ r₂ z₂ x y = let v = ask-valid s labels entries set (length r) (length z) (x .0) in
+      absurd (open-not-closed (s .p) (v .prime) (s .d) (s .e - 1) E chosen (place r₁) (place z₂)
+      (subst (λ (e : ℕ). Rows.OpeningVector (s .p) (s .d) e E chosen (place r₁)) (columns v) (x .1))
+      (subst (λ (e : ℕ). Rows.Witness (s .p) (s .d) e E chosen (place z₂)) (columns v) (y .1)))
+  settled Open (Refused k) r₁ z₁ r₂ z₂ x y = absurd (omega (arith, x .0, y .0, y .1))
+  settled Closed Open r₁ z₁ r₂ z₂ x y = let v = ask-valid s labels entries set (length r) (length z) (x .0) in
+      absurd (open-not-closed (s .p) (v .prime) (s .d) (s .e - 1) E chosen (place r₂) (place z₁)
+      (subst (λ (e : ℕ). Rows.OpeningVector (s .p) (s .d) e E chosen (place r₂)) (columns v) (y .1))
+      (subst (λ (e : ℕ). Rows.Witness (s .p) (s .d) e E chosen (place z₁)) (columns v) (x .1)))
+  settled Closed Closed r₁ z₁ r₂ z₂ x y = let v = ask-valid s labels entries set (length r) (length z) (x .0) in (
+    refl,
+    x .3 ∙ sym (y .3),
+    ext-getD 0 z₁ z₂ (x .2 ∙ sym (y .2)) (λ k l.
+        witness-unique (s .p) (v .prime) (s .d) (s .e - 1) E chosen (place z₁) (place z₂)
+        (subst (λ (e : ℕ). Rows.Witness (s .p) (s .d) e E chosen (place z₁)) (columns v) (x .1))
+        (subst (λ (e : ℕ). Rows.Witness (s .p) (s .d) e E chosen (place z₂)) (columns v) (y .1)) k (omega (arith, x .2, columns v))),
+  )
+  settled Closed (Refused k) r₁ z₁ r₂ z₂ x y = absurd (omega (arith, x .0, y .0, y .1))
+  settled (Refused j) Open r₁ z₁ r₂ z₂ x y = absurd (omega (arith, x .0, x .1, y .0))
+  settled (Refused j) Closed r₁ z₁ r₂ z₂ x y = absurd (omega (arith, x .0, x .1, y .0))
+  settled (Refused j) (Refused k) r₁ z₁ r₂ z₂ x y = (ap Refused (sym (x .0) ∙ y .0), x .2 ∙ sym (y .2), x .3 ∙ sym (y .3))

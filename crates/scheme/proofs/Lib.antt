@@ -1,0 +1,4 @@
+pub mod Tests
+pub mod Refusals
+pub mod Outcomes
+pub mod Settled

@@ -1,0 +1,6 @@
+pub mod Tests
+pub mod Sets
+pub mod Open
+pub mod Dealing
+pub mod Refusal
+pub mod Outcome

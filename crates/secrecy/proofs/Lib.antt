@@ -1,0 +1,3 @@
+pub mod Recover
+pub mod Pairing
+pub mod Handed

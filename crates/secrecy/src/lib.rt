@@ -1,0 +1,1 @@
+// Theory only: what an opening vector and a witness show of dealings.
