@@ -6,3 +6,5 @@ pub mod Masked
 pub mod Dual
 pub mod Comb
 pub mod Rows
+pub mod Flat
+pub mod Summing

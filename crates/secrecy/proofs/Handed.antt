@@ -14,6 +14,7 @@ use Rattle.linear.specs.Combination.{total}
 use Rattle.linear.specs.Flat.{place, entry, listOf}
 use Rattle.linear.specs.Rows as Rows
 use Rattle.linear.specs.Rows.{target}
+use Rattle.linear.proofs.Flat.{list-at, list-length}
 use Rattle.linear.proofs.Rows.{open-or-closed, opening-open, witness-closed, witness-unique, none-chosen}
 use Rattle.scheme.specs.declared.Shape.{Shape}
 use Rattle.scheme.specs.Dealing.{shareOf, sharesOf, joined}
@@ -25,7 +26,7 @@ use Rattle.ask.specs.Says.{AskSays}
 use Rattle.ask.proofs.Says.{ask-valid}
 use Rattle.secrecy.specs.Pairing.{RandomList, partner}
 use Rattle.secrecy.proofs.Recover.{code-back}
-use Rattle.secrecy.proofs.Pairing.{list-at, list-length, partner-random, partner-back, same-shares}
+use Rattle.secrecy.proofs.Pairing.{partner-random, partner-back, same-shares}
 
 module _ (s : Shape) (labels entries : List ℕ) (set : ℕ) where
   abbrev E : ℕ → ℕ → ℕ

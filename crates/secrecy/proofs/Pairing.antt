@@ -1,11 +1,11 @@
 -- The witness pairs the random lists for one code with those for another: a map, its inverse, both compositions the identity, and the
 -- shares at the chosen rows are the same in each pair.
 -- Assumes nothing.
-use mathlib.Core.Path.{_≡_, refl, sym, ap, _∙_}
+use mathlib.Core.Path.{_≡_, sym, ap, _∙_}
 use mathlib.Core.Bool.{Bool, true}
 use mathlib.Core.List.{List, _∷_}
 use Prim.Native.Nat.{ℕ, zero, suc, _<_, _+_, _-_, _*_, _%_, _/_}
-use native.Mathlib.Nat.{mod-lt, mod-eq-of-lt, mod-add-mod, add-mod-mod, zero-mod, div-add-mod', le-of-suc-le-suc}
+use native.Mathlib.Nat.{mod-lt, mod-eq-of-lt, mod-add-mod, add-mod-mod, zero-mod, div-add-mod'}
 use native.Mathlib.Omega.{arith}
 use lib.ListN.{length, getD}
 use lib.Seq.{ext-getD}
@@ -17,19 +17,11 @@ use Rattle.residue.specs.Residue.{F, res, _⊕_, _⊗_}
 use Rattle.residue.proofs.Modulo.{mod-by}
 use Rattle.residue.proofs.Field.{residueRing, positive, res-mod, res-add, res-mul, res-same}
 use Rattle.linear.specs.Combination.{total}
-use Rattle.linear.specs.Flat.{place, listOf}
+use Rattle.linear.specs.Flat.{place}
 use Rattle.linear.specs.Rows.{Witness}
+use Rattle.linear.proofs.Flat.{list-length, list-at}
 use Rattle.linear.proofs.Carry.{dot-iff, res-dot}
 use Rattle.secrecy.specs.Pairing.{RandomList, minus, partner}
-
-pub list-length : (n : ℕ) (f : ℕ → ℕ) → length (listOf n f) ≡ n
-list-length zero f = refl
-list-length (suc n) f = ap suc (list-length n (λ i. f (suc i)))
-
-pub list-at : (n : ℕ) (f : ℕ → ℕ) (i : ℕ) → i < n → getD (listOf n f) i 0 ≡ f i
-list-at zero f i l = absurd (omega arith)
-list-at (suc n) f zero l = refl
-list-at (suc n) f (suc i) l = list-at n (λ i. f (suc i)) i (le-of-suc-le-suc l)
 
 module _ (p : ℕ) (H : Prime p) where
   -- There and back again is no way.

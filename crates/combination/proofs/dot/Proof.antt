@@ -3,7 +3,7 @@
 use Prim.Native.Nat.{_-_, _*_}
 use native.Mathlib.Omega.{arith}
 use Rattle.linear.specs.Flat.{place, entry}
-use Rattle.combination.proofs.Laws.{Summing, sum-start, sum-turn, sum-end}
+use Rattle.linear.proofs.Summing.{Summing, sum-start, sum-turn, sum-end}
 use Rattle.combination.proofs.dot.Statement.{statement}
 use Rattle.combination.proofs.dot.Tie as tie
 
