@@ -1,6 +1,6 @@
 -- A number built from its highest bit down: twice what there is and the next bit.
 -- Assumes nothing.
-use mathlib.Core.Path.{_≡_, sym, ap, _∙_}
+use mathlib.Core.Path.{_≡_, sym, ap, _∙_, subst}
 use mathlib.Core.Bool.{Bool, true, false, cond}
 use Prim.Native.Nat.{ℕ, zero, suc, _<_, _≤_, _+_, _-_, _*_, _/_, _%_, _^_}
 use native.Mathlib.Nat.{div-div-eq-div-mul, pow-succ', two-pow-succ}
@@ -65,3 +65,6 @@ built-turn mark n k c x b h l e q = record {
 
 pub built-end : (mark : ℕ → Bool) (n k c : ℕ) → Built mark n k c → k ≤ 0 → (j : ℕ) → j < n → bit c j ≡ mark j
 built-end mark n k c h l j lj = h .bits j (omega arith) ∙ ap mark (omega arith)
+
+pub built-small : (mark : ℕ → Bool) (n k c : ℕ) → Built mark n k c → k ≤ 0 → c < 2 ^ n
+built-small mark n k c h l = let e : n - k ≡ n = omega arith in subst (λ (m : ℕ). c < 2 ^ m) e (h .small)

@@ -1,23 +1,25 @@
 -- What `ask` answers, from what the question of the chosen rows answers; and that it settles the outcome.
 -- Assumes nothing.
-use mathlib.Core.Path.{_≡_, refl, sym, ap, _∙_, subst}
+use mathlib.Core.Path.{_≡_, refl, sym, ap, ap₂, _∙_, subst}
 use mathlib.Core.Bool.{Bool, true, false, _&&_}
 use mathlib.Core.List.{List}
-use Prim.Native.Nat.{ℕ, suc, _<_, _≤_, _-_}
+use Prim.Native.Nat.{ℕ, suc, _<_, _≤_, _-_, _^_}
 use native.Mathlib.Omega.{arith}
 use lib.Dec.{eqb}
 use lib.ListN.{length, getD}
 use lib.Seq.{ext-getD}
-use borrow.Author.Tests.{eqb-true}
+use borrow.Author.Tests.{eqb-true, eq-eqb, lt-ltb}
 use Rattle.linear.specs.Flat.{place, entry}
 use Rattle.linear.specs.Rows as Rows
-use Rattle.linear.proofs.Rows.{open-not-closed, opening-unique, witness-unique, opening-same, witness-same}
+use Rattle.linear.proofs.Rows.{open-not-closed, opening-open, witness-closed, opening-unique, witness-unique, opening-same, witness-same}
 use Rattle.rows.specs.declared.Answer.{Answer}
 use Rattle.rows.specs.Answered.{Answered}
 use Rattle.rows.specs.Chosen.{bit}
 use Rattle.scheme.specs.declared.Shape.{Shape}
+use Rattle.scheme.specs.Open as Set
 use Rattle.scheme.specs.Sets.{ofSet}
-use Rattle.scheme.specs.Refusal.{setRefusal, askRefusal}
+use Rattle.scheme.specs.Tests.{unless}
+use Rattle.scheme.specs.Refusal.{refusalOf, setRefusal, askRefusal, IsScheme}
 use Rattle.scheme.proofs.Refusals.{refusal-more, orElse-zero, Valid, valid, valid-fits, and-true}
 use Rattle.ask.specs.declared.Verdict.{Verdict}
 use Rattle.ask.specs.declared.Verdict.the-variants.{Open, Closed, Refused}
@@ -60,6 +62,11 @@ module _ (s : Shape) (labels entries : List ℕ) (set : ℕ) (r z r′ z′ : Li
   unfolding AskSays
   says-closed q = let w = an .if-closed q in
       (h, witness-same (s .p) (s .d) (s .e) (entry (s .e) entries) (bit chosen) (ofSet set labels) same (place z′) (w .0), w .1, w .2)
+
+-- On a scheme, with a set of its participants and lists of their lengths, the call is not refused.
+pub ask-answers : (s : Shape) (labels entries : List ℕ) (set : ℕ) → IsScheme s labels entries → set < 2 ^ s .n → askRefusal s labels entries set (s .d) (s .e) ≡ 0
+ask-answers s labels entries set h l =
+    ap₂ (λ b k. refusalOf s labels entries b k) (ap₂ _&&_ (eq-eqb (s .d) (s .d) refl) (eq-eqb (s .e) (s .e) refl)) (ap (λ b. unless b 8) (lt-ltb set (2 ^ s .n) l)) ∙ h
 
 -- Two outcomes that the contract permits are equal: "One r only meets this", "One z only meets this".
 module _ (s : Shape) (labels entries : List ℕ) (set : ℕ) (r z : List ℕ) where
@@ -105,3 +112,16 @@ module _ (s : Shape) (labels entries : List ℕ) (set : ℕ) (r z : List ℕ) wh
   settled (Refused j) Open r₁ z₁ r₂ z₂ x y = absurd (omega (arith, x .0, x .1, y .0))
   settled (Refused j) Closed r₁ z₁ r₂ z₂ x y = absurd (omega (arith, x .0, x .1, y .0))
   settled (Refused j) (Refused k) r₁ z₁ r₂ z₂ x y = (ap Refused (sym (x .0) ∙ y .0), x .2 ∙ sym (y .2), x .3 ∙ sym (y .3))
+
+  -- The verdict is the document's: open where the target is a combination of the set's rows, closed where it is not.
+  pub says-is-open : (r₁ z₁ : List ℕ) → AskSays s labels entries set r z Open r₁ z₁ → Set.Open s labels entries set
+  unfolding AskSays
+  says-is-open r₁ z₁ x = let v = ask-valid s labels entries set (length r) (length z) (x .0) in
+      subst (λ (e : ℕ). Rows.Open (s .p) (s .d) e E chosen) (sym (columns v)) (opening-open (s .p) (v .prime) (s .d) (s .e - 1) E chosen (place r₁)
+      (subst (λ (e : ℕ). Rows.OpeningVector (s .p) (s .d) e E chosen (place r₁)) (columns v) (x .1)))
+
+  pub says-is-closed : (r₁ z₁ : List ℕ) → AskSays s labels entries set r z Closed r₁ z₁ → Set.Closed s labels entries set
+  unfolding AskSays
+  says-is-closed r₁ z₁ x = let v = ask-valid s labels entries set (length r) (length z) (x .0) in
+      subst (λ (e : ℕ). Rows.Closed (s .p) (s .d) e E chosen) (sym (columns v)) (witness-closed (s .p) (v .prime) (s .d) (s .e - 1) E chosen (place z₁)
+      (subst (λ (e : ℕ). Rows.Witness (s .p) (s .d) e E chosen (place z₁)) (columns v) (x .1)))

@@ -2,7 +2,7 @@
 use scheme::Shape;
 ghost use mathlib.Core.Path.{_≡_};
 ghost use mathlib.Core.Bool.{cond};
-ghost use Prim.Native.Nat.{ℕ, _<_, _≤_};
+ghost use Prim.Native.Nat.{ℕ, _<_, _≤_, _^_};
 ghost use lib.ListN.{length, getD};
 ghost use Rattle.rows.specs.Chosen.{bit};
 ghost use Rattle.scheme.specs.Sets.{ofSet};
@@ -29,7 +29,8 @@ fn one_if(b: bool) -> u32
 pub fn chosen_rows(set: u32, labels: &[u32]) -> u32
     requires { ⌜ length (now labels) ≤ 32 ⌝ }
     requires { ⌜ ((k : ℕ) → k < length (now labels) → (1 ≤ getD (now labels) k 0) × (getD (now labels) k 0 ≤ 16)) ⌝ }
-    ensures { λ r. ⌜ ((k : ℕ) → k < length (now (labels .entry)) → bit r k ≡ ofSet set (now (labels .entry)) k) ⌝ }
+    ensures bits { λ r. ⌜ ((k : ℕ) → k < length (now (labels .entry)) → bit r k ≡ ofSet set (now (labels .entry)) k) ⌝ }
+    ensures small { λ r. ⌜ r < 2 ^ length (now (labels .entry)) ⌝ }
 {
     let mut chosen: u32 = 0;
     let mut k = labels.len();

@@ -1,6 +1,7 @@
 -- Document 01, "Refusal numbers", for the calls on a scheme. Each definition tries its tests in the order of the table, so that the lowest
 -- number that applies can be read off; 0 is no refusal.
 -- Assumes nothing.
+use mathlib.Core.Path.{_≡_}
 use mathlib.Core.Bool.{Bool, true, not, _&&_, _||_}
 use mathlib.Core.List.{List, [], _∷_}
 use Prim.Native.Nat.{ℕ, _+_, _*_, _^_}
@@ -25,18 +26,22 @@ contentRefusal p n labels entries =
     orElse (unless (each (within 1 n) labels) 6)
     (unless (eachBelow p entries) 7)
 
--- Every call on a scheme: 1 to 4; then 5, "a lent list has not exactly the length needed", where `fits` says it of the call's own lists;
--- then 6 and 7; then what the call refuses after that.
+-- Every call on a scheme: 1 to 4; then 5, "a lent list has not exactly the length needed", where `lengths` says of the call's own lists that
+-- they have theirs; then 6 and 7; then what the call refuses after that.
 unfoldable pub refusalOf : Shape → List ℕ → List ℕ → Bool → ℕ → ℕ
-refusalOf s labels entries fits more =
+refusalOf s labels entries lengths more =
     orElse (numbersRefusal s)
-    (orElse (unless (eqb (length labels) (s .d) && (eqb (length entries) (s .d * s .e) && fits)) 5)
+    (orElse (unless (eqb (length labels) (s .d) && (eqb (length entries) (s .d * s .e) && lengths)) 5)
     (orElse (contentRefusal (s .p) (s .n) labels entries)
     more))
 
 -- Checking a scheme.
 abbrev pub checkRefusal : Shape → List ℕ → List ℕ → ℕ
 checkRefusal s labels entries = refusalOf s labels entries true 0
+
+-- A scheme as document 01 has it: nothing is refused.
+abbrev pub IsScheme : Shape → List ℕ → List ℕ → Type 0
+IsScheme s labels entries = checkRefusal s labels entries ≡ 0
 
 -- Dealing: e - 1 random numbers, d places for the shares; 9: "a secret, random number or share that is read is not below p".
 abbrev pub dealRefusal : Shape → List ℕ → List ℕ → ℕ → List ℕ → ℕ → ℕ

@@ -6,7 +6,7 @@ use Prim.Native.Nat.{ℕ, _-_, _/_, _%_, _^_}
 use lib.Dec.{eqb}
 use Rattle.linear.specs.Flat.{place}
 
--- "A set is a number: participant i is in it when bit i - 1 is one."
+-- "A set is a number: participant i is in it when bit i - 1 is one." Participants are counted from 1.
 abbrev pub inSet : ℕ → ℕ → Bool
 inSet set i = eqb (set / 2 ^ (i - 1) % 2) 1
 

@@ -21,10 +21,10 @@ use Rattle.linear.specs.Flat.{place}
 use Rattle.linear.specs.Rows.{Witness}
 use Rattle.linear.proofs.Flat.{list-length, list-at}
 use Rattle.linear.proofs.Carry.{dot-iff, res-dot}
-use Rattle.secrecy.specs.Pairing.{RandomList, minus, partner}
+use Rattle.secrecy.specs.Pairing.{RandomList, minus, partnerAt, partner}
 
 module _ (p : ℕ) (H : Prime p) where
-  -- There and back again is no way.
+  -- second - first and first - second add up to 0.
   minus-back : (a b : ℕ) → a < p → b < p → (minus p b a + minus p a b) % p ≡ 0
   minus-back a b la lb = mod-add-mod (b + (p - a)) p (minus p a b) ∙ add-mod-mod (b + (p - a)) (a + (p - b)) p
       ∙ mod-by p (b + (p - a) + (a + (p - b))) 0 0 2 (omega arith) ∙ zero-mod p
@@ -37,12 +37,12 @@ module _ (p : ℕ) (H : Prime p) where
   module _ (e : ℕ) (z : ℕ → ℕ) where
     partner-length : (first second : ℕ) (xs : List ℕ) → length (partner p z first second xs) ≡ length xs
     unfolding partner
-    partner-length first second xs = list-length (length xs) (λ j. (place xs j + z (suc j) * minus p second first) % p)
+    partner-length first second xs = list-length (length xs) (partnerAt p z first second xs)
 
     partner-at : (first second : ℕ) (xs : List ℕ) (j : ℕ) → j < length xs
-        → getD (partner p z first second xs) j 0 ≡ (place xs j + z (suc j) * minus p second first) % p
+        → getD (partner p z first second xs) j 0 ≡ partnerAt p z first second xs j
     unfolding partner
-    partner-at first second xs j l = list-at (length xs) (λ j. (place xs j + z (suc j) * minus p second first) % p) j l
+    partner-at first second xs j l = list-at (length xs) (partnerAt p z first second xs) j l
 
     -- The partner of a random list is a random list.
     pub partner-random : (first second : ℕ) (xs : List ℕ) → RandomList p e xs → RandomList p e (partner p z first second xs)
@@ -52,7 +52,7 @@ module _ (p : ℕ) (H : Prime p) where
           rw (partner-at first second xs j (omega arith)) (mod-lt (place xs j + z (suc j) * minus p second first) (positive p H));
     }
 
-    -- The partner's partner is the list itself: with the codes exchanged the map is its own inverse, on either side.
+    -- The partner's partner is the list itself: the map with the codes exchanged is the inverse.
     pub partner-back : (first second : ℕ) (xs : List ℕ) → first < p → second < p → RandomList p e xs → partner p z second first (partner p z first second xs) ≡ xs
     partner-back first second xs lf ls h = ext-getD 0 (partner p z second first ys) xs (partner-length second first ys ∙ partner-length first second xs)
         (λ j l. let n = partner-length second first ys in let m = partner-length first second xs in

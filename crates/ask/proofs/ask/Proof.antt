@@ -26,7 +26,7 @@ same-length-2 : tie.Need-same-length-2
 same-length-2 c = search needs
 
 returns-2 : tie.Need-returns-2
-returns-2 c = let s = c .before .before .before .before .before .before .before .before .before .before .before .before .before .before .before in let h = gone (c .before .before .before .before .before .before .before .before .before .before .ask-refusal .ensures) (c .before .before .before .before .before .before .before .before .before .if1 .left) in let v = ask-valid (s .args .s) (s .args .labels .now) (s .args .entries .now) _ _ _ h in says-open (s .args .s) (s .args .labels .now) (s .args .entries .now) (s .args .set) (s .args .r .now) (s .args .z .now) (c .before .before .before .before .before .ask .last .1 .1 .1 .1 .1 .0) (c .before .before .before .before .before .ask .last .1 .1 .1 .1 .1 .1 .0) (c .before .before .before .before .before .ask .result) (c .before .before .before .before .before .before .before .before .chosen-rows .result) h (λ k l. c .before .before .before .before .before .before .before .before .chosen-rows .ensures k (omega (arith, v .labels-length))) (c .before .before .before .before .before .ask .ensures) (c .if2 .taken)
+returns-2 c = let s = c .before .before .before .before .before .before .before .before .before .before .before .before .before .before .before in let h = gone (c .before .before .before .before .before .before .before .before .before .before .ask-refusal .ensures) (c .before .before .before .before .before .before .before .before .before .if1 .left) in let v = ask-valid (s .args .s) (s .args .labels .now) (s .args .entries .now) _ _ _ h in says-open (s .args .s) (s .args .labels .now) (s .args .entries .now) (s .args .set) (s .args .r .now) (s .args .z .now) (c .before .before .before .before .before .ask .last .1 .1 .1 .1 .1 .0) (c .before .before .before .before .before .ask .last .1 .1 .1 .1 .1 .1 .0) (c .before .before .before .before .before .ask .result) (c .before .before .before .before .before .before .before .before .chosen-rows .result) h (λ k l. c .before .before .before .before .before .before .before .before .chosen-rows .ensures .0 k (omega (arith, v .labels-length))) (c .before .before .before .before .before .ask .ensures) (c .if2 .taken)
 
 same-length-3 : tie.Need-same-length-3
 same-length-3 c = search needs
@@ -35,7 +35,7 @@ same-length-4 : tie.Need-same-length-4
 same-length-4 c = search needs
 
 returns-3 : tie.Need-returns-3
-returns-3 c = let s = c .before .before .before .before .before .before .before .before .before .before .before .before .before .before .before in let h = gone (c .before .before .before .before .before .before .before .before .before .before .ask-refusal .ensures) (c .before .before .before .before .before .before .before .before .before .if1 .left) in let v = ask-valid (s .args .s) (s .args .labels .now) (s .args .entries .now) _ _ _ h in says-closed (s .args .s) (s .args .labels .now) (s .args .entries .now) (s .args .set) (s .args .r .now) (s .args .z .now) (c .before .before .before .before .before .ask .last .1 .1 .1 .1 .1 .0) (c .before .before .before .before .before .ask .last .1 .1 .1 .1 .1 .1 .0) (c .before .before .before .before .before .ask .result) (c .before .before .before .before .before .before .before .before .chosen-rows .result) h (λ k l. c .before .before .before .before .before .before .before .before .chosen-rows .ensures k (omega (arith, v .labels-length))) (c .before .before .before .before .before .ask .ensures) (c .if2 .left)
+returns-3 c = let s = c .before .before .before .before .before .before .before .before .before .before .before .before .before .before .before in let h = gone (c .before .before .before .before .before .before .before .before .before .before .ask-refusal .ensures) (c .before .before .before .before .before .before .before .before .before .if1 .left) in let v = ask-valid (s .args .s) (s .args .labels .now) (s .args .entries .now) _ _ _ h in says-closed (s .args .s) (s .args .labels .now) (s .args .entries .now) (s .args .set) (s .args .r .now) (s .args .z .now) (c .before .before .before .before .before .ask .last .1 .1 .1 .1 .1 .0) (c .before .before .before .before .before .ask .last .1 .1 .1 .1 .1 .1 .0) (c .before .before .before .before .before .ask .result) (c .before .before .before .before .before .before .before .before .chosen-rows .result) h (λ k l. c .before .before .before .before .before .before .before .before .chosen-rows .ensures .0 k (omega (arith, v .labels-length))) (c .before .before .before .before .before .ask .ensures) (c .if2 .left)
 
 pub ask-spec : {M : Type 1} → statement M
 ask-spec =

@@ -1,6 +1,6 @@
 -- `ask::chosen_rows` meets its contract: the number is built from the last row to the first (`Built` of proofs/Mask.antt).
 -- Assumes nothing.
-use Rattle.ask.proofs.Mask.{Built, built-start, built-fits, built-turn, built-end, one-small}
+use Rattle.ask.proofs.Mask.{Built, built-start, built-fits, built-turn, built-end, built-small, one-small}
 use Rattle.scheme.specs.Sets.{ofSet}
 use lib.ListN.{length}
 use Prim.Native.Nat.{_-_}
@@ -46,7 +46,9 @@ loop-again : tie.Need-loop-again Inv-loop μ-loop
 loop-again c = let l = c .before .before .before .before .loop in built-turn _ _ _ _ _ (c .before .in-set .result) (l .inv) (omega arith) (c .before .in-set .ensures) (c .one-if .ensures)
 
 returns : tie.Need-returns Inv-loop μ-loop
-returns c = built-end _ _ _ _ (c .before .loop .inv) (omega arith)
+returns c =
+    let h = c .before .loop .inv in
+    (built-end _ _ _ _ h (omega arith), built-small _ _ _ _ h (omega arith))
 
 pub chosen-rows-spec : {M : Type 1} → statement M
 chosen-rows-spec =
