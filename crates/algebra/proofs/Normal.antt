@@ -90,7 +90,8 @@ module _ {A : Type 0} (R : Ring A) where
   ins-ok ρ x [] = refl
   ins-ok ρ x (y ∷ ys) = go (leb x y) (ins-ok ρ x ys)
     where
-      go : (b : Bool) → evM ρ (ins x ys) ≡ ρ x ⊗ evM ρ ys → evM ρ (elim b [ true ↦ x ∷ y ∷ ys | false ↦ y ∷ ins x ys ]) ≡ ρ x ⊗ (ρ y ⊗ evM ρ ys)
+      go : (b : Bool) → evM ρ (ins x ys) ≡ ρ x ⊗ evM ρ ys
+          → evM ρ (elim b [ true ↦ x ∷ y ∷ ys | false ↦ y ∷ ins x ys ]) ≡ ρ x ⊗ (ρ y ⊗ evM ρ ys)
       go true ih = refl
       go false ih = ap (λ z. ρ y ⊗ z) ih ∙ (mlcomm R (ρ y) (ρ x) (evM ρ ys))
 
@@ -102,7 +103,8 @@ module _ {A : Type 0} (R : Ring A) where
   insP-ok ρ m [] = refl
   insP-ok ρ m (q ∷ p) = go (leM m q) (insP-ok ρ m p)
     where
-      go : (b : Bool) → evP ρ (insP m p) ≡ evM ρ m ⊕ evP ρ p → evP ρ (elim b [ true ↦ m ∷ q ∷ p | false ↦ q ∷ insP m p ]) ≡ evM ρ m ⊕ (evM ρ q ⊕ evP ρ p)
+      go : (b : Bool) → evP ρ (insP m p) ≡ evM ρ m ⊕ evP ρ p
+          → evP ρ (elim b [ true ↦ m ∷ q ∷ p | false ↦ q ∷ insP m p ]) ≡ evM ρ m ⊕ (evM ρ q ⊕ evP ρ p)
       go true ih = refl
       go false ih = ap (λ z. evM ρ q ⊕ z) ih ∙ (lcomm R (evM ρ q) (evM ρ m) (evP ρ p))
 
@@ -136,24 +138,31 @@ module _ {A : Type 0} (R : Ring A) where
       ap₂ _⊕_ (nf-ok ρ a) (nf-ok ρ b) ∙ plus (evP ρ (nf a true)) (evP ρ (nf a false)) (evP ρ (nf b true)) (evP ρ (nf b false))
       ∙ ap₂ (λ x y. x ⊕ neg y) (sym (addP-ok ρ (nf a true) (nf b true))) (sym (addP-ok ρ (nf a false) (nf b false)))
   nf-ok ρ (a :- b) =
-      ap₂ (λ x y. x ⊕ neg y) (nf-ok ρ a) (nf-ok ρ b) ∙ minus (evP ρ (nf a true)) (evP ρ (nf a false)) (evP ρ (nf b true)) (evP ρ (nf b false))
+      ap₂ (λ x y. x ⊕ neg y) (nf-ok ρ a) (nf-ok ρ b)
+      ∙ minus (evP ρ (nf a true)) (evP ρ (nf a false)) (evP ρ (nf b true)) (evP ρ (nf b false))
       ∙ ap₂ (λ x y. x ⊕ neg y) (sym (addP-ok ρ (nf a true) (nf b false))) (sym (addP-ok ρ (nf a false) (nf b true)))
   nf-ok ρ (a :* b) =
       ap₂ _⊗_ (nf-ok ρ a) (nf-ok ρ b) ∙ times (evP ρ (nf a true)) (evP ρ (nf a false)) (evP ρ (nf b true)) (evP ρ (nf b false))
       ∙ ap₂ (λ x y. x ⊕ neg y) (prods true) (prods false)
     where
       prods : (s : Bool) → (evP ρ (nf a true) ⊗ evP ρ (nf b s)) ⊕ (evP ρ (nf a false) ⊗ evP ρ (nf b (not s))) ≡ evP ρ (nf (a :* b) s)
-      prods s = sym (addP-ok ρ (mulP (nf a true) (nf b s)) (mulP (nf a false) (nf b (not s))) ∙ ap₂ _⊕_ (mulP-ok ρ (nf a true) (nf b s)) (mulP-ok ρ (nf a false) (nf b (not s))))
+      prods s = sym
+          (addP-ok ρ (mulP (nf a true) (nf b s)) (mulP (nf a false) (nf b (not s)))
+          ∙ ap₂ _⊕_ (mulP-ok ρ (nf a true) (nf b s)) (mulP-ok ρ (nf a false) (nf b (not s))))
   nf-ok ρ (ng a) = ap neg (nf-ok ρ a) ∙ simp (neg-add R, neg-neg R, comm)
 
   pub ring : (e f : Ex) → addP (nf e true) (nf f false) ≡ addP (nf f true) (nf e false) → (ρ : ℕ → A) → ⟦ e ⟧ ρ ≡ ⟦ f ⟧ ρ
-  ring e f h ρ = nf-ok ρ e ∙ move (evP ρ (nf e true)) (evP ρ (nf e false)) (evP ρ (nf f true)) (evP ρ (nf f false)) (sym (addP-ok ρ (nf e true) (nf f false)) ∙ ap (evP ρ) h ∙ addP-ok ρ (nf f true) (nf e false)) ∙ sym (nf-ok ρ f)
+  ring e f h ρ = nf-ok ρ e
+      ∙ move (evP ρ (nf e true)) (evP ρ (nf e false)) (evP ρ (nf f true)) (evP ρ (nf f false))
+      (sym (addP-ok ρ (nf e true) (nf f false)) ∙ ap (evP ρ) h ∙ addP-ok ρ (nf f true) (nf e false)) ∙ sym (nf-ok ρ f)
     where
       l : (a b d : A) → b ⊕ d ⊕ (a ⊕ neg b) ≡ a ⊕ d
-      l a b d = ap₂ _⊕_ (comm b d) (comm a (neg b)) ∙ assoc d b (neg b ⊕ a) ∙ ap (λ x. d ⊕ x) (sym (assoc b (neg b) a) ∙ simp (neg-r, zero-l)) ∙ comm d a
+      l a b d = ap₂ _⊕_ (comm b d) (comm a (neg b)) ∙ assoc d b (neg b ⊕ a)
+          ∙ ap (λ x. d ⊕ x) (sym (assoc b (neg b) a) ∙ simp (neg-r, zero-l)) ∙ comm d a
 
       r : (b c d : A) → b ⊕ d ⊕ (c ⊕ neg d) ≡ c ⊕ b
-      r b c d = ap (λ x. b ⊕ d ⊕ x) (comm c (neg d)) ∙ assoc b d (neg d ⊕ c) ∙ ap (λ x. b ⊕ x) (sym (assoc d (neg d) c) ∙ simp (neg-r, zero-l)) ∙ comm b c
+      r b c d = ap (λ x. b ⊕ d ⊕ x) (comm c (neg d)) ∙ assoc b d (neg d ⊕ c)
+          ∙ ap (λ x. b ⊕ x) (sym (assoc d (neg d) c) ∙ simp (neg-r, zero-l)) ∙ comm b c
 
       move : (a b c d : A) → a ⊕ d ≡ c ⊕ b → a ⊕ neg b ≡ c ⊕ neg d
       move a b c d e = cancel R (b ⊕ d) (a ⊕ neg b) (c ⊕ neg d) (l a b d ∙ e ∙ sym (r b c d))

@@ -55,8 +55,11 @@ module _ {A : Type 0} (R : Ring A) where
   pub sum-unit : (n c : ℕ) (f : ℕ → A) → c < n → sum R n (λ i. unit c i ⊗ f i) ≡ f c
   sum-unit zero c f h = absurd (not-suc-le-zero h)
   sum-unit (suc n) c f h = ⊎-elim
-      (λ (e : c ≡ n). rw e (ap₂ _⊕_ (sum-zero n (λ i. unit n i ⊗ f i) (λ i l. ap (λ z. z ⊗ f i) (unit-other n i (λ q. omega arith)) ∙ zero-mul R (f i))) (ap (λ z. z ⊗ f n) (unit-same n) ∙ one-l (f n)) ∙ zero-l (f n)))
-      (λ (l : c < n). ap₂ _⊕_ (sum-unit n c f l) (ap (λ z. z ⊗ f n) (unit-other c n (λ q. omega arith)) ∙ zero-mul R (f n)) ∙ zero-r R (f c))
+      (λ (e : c ≡ n). rw e
+      (ap₂ _⊕_ (sum-zero n (λ i. unit n i ⊗ f i) (λ i l. ap (λ z. z ⊗ f i) (unit-other n i (λ q. omega arith)) ∙ zero-mul R (f i)))
+      (ap (λ z. z ⊗ f n) (unit-same n) ∙ one-l (f n)) ∙ zero-l (f n)))
+      (λ (l : c < n). ap₂ _⊕_ (sum-unit n c f l) (ap (λ z. z ⊗ f n) (unit-other c n (λ q. omega arith)) ∙ zero-mul R (f n))
+      ∙ zero-r R (f c))
       (eq-or-lt-of-le (le-of-suc-le-suc h))
 
   -- the first m of c, and then a
@@ -70,7 +73,8 @@ module _ {A : Type 0} (R : Ring A) where
   put-at m c a = ap (λ b. cond b (c m) a) (le-ltb m m (omega arith))
 
   pub sum-put : (m : ℕ) (c : ℕ → A) (a : A) (w : ℕ → A) → sum R (suc m) (λ k. put m c a k ⊗ w k) ≡ sum R m (λ k. c k ⊗ w k) ⊕ a ⊗ w m
-  sum-put m c a w = ap₂ _⊕_ (sum-cong m (λ k. put m c a k ⊗ w k) (λ k. c k ⊗ w k) (λ k l. ap (λ z. z ⊗ w k) (put-lt m c a k l))) (ap (λ z. z ⊗ w m) (put-at m c a))
+  sum-put m c a w = ap₂ _⊕_ (sum-cong m (λ k. put m c a k ⊗ w k) (λ k. c k ⊗ w k) (λ k l. ap (λ z. z ⊗ w k) (put-lt m c a k l)))
+      (ap (λ z. z ⊗ w m) (put-at m c a))
 
   -- the product is linear in each argument
   pub dot-sub : (n : ℕ) (y w t : ℕ → A) (b : A) → dot R n (λ i. y i ⊕ neg (b ⊗ w i)) t ≡ dot R n y t ⊕ neg (b ⊗ dot R n w t)
@@ -83,15 +87,19 @@ module _ {A : Type 0} (R : Ring A) where
   dot-comm n x y = sum-cong n (λ i. x i ⊗ y i) (λ i. y i ⊗ x i) (λ i l. mcomm (x i) (y i))
 
   pub dot-sub-r : (n : ℕ) (y t w : ℕ → A) (b : A) → dot R n y (λ i. t i ⊕ neg (b ⊗ w i)) ≡ dot R n y t ⊕ neg (b ⊗ dot R n y w)
-  dot-sub-r n y t w b = dot-comm n y (λ i. t i ⊕ neg (b ⊗ w i)) ∙ dot-sub n t w y b ∙ ap₂ (λ p q. p ⊕ neg (b ⊗ q)) (dot-comm n t y) (dot-comm n w y)
+  dot-sub-r n y t w b = dot-comm n y (λ i. t i ⊕ neg (b ⊗ w i)) ∙ dot-sub n t w y b
+      ∙ ap₂ (λ p q. p ⊕ neg (b ⊗ q)) (dot-comm n t y) (dot-comm n w y)
 
   -- a functional of a combination
-  pub dot-comb : (n m : ℕ) (y c : ℕ → A) (w : ℕ → ℕ → A) → dot R n y (λ i. sum R m (λ k. c k ⊗ w k i)) ≡ sum R m (λ k. c k ⊗ dot R n y (w k))
+  pub dot-comb : (n m : ℕ) (y c : ℕ → A) (w : ℕ → ℕ → A)
+      → dot R n y (λ i. sum R m (λ k. c k ⊗ w k i)) ≡ sum R m (λ k. c k ⊗ dot R n y (w k))
   dot-comb n m y c w =
-      sum-cong n (λ i. y i ⊗ sum R m (λ k. c k ⊗ w k i)) (λ i. sum R m (λ k. y i ⊗ (c k ⊗ w k i))) (λ i l. sym (sum-mul m (y i) (λ k. c k ⊗ w k i)))
+      sum-cong n (λ i. y i ⊗ sum R m (λ k. c k ⊗ w k i)) (λ i. sum R m (λ k. y i ⊗ (c k ⊗ w k i)))
+      (λ i l. sym (sum-mul m (y i) (λ k. c k ⊗ w k i)))
       ∙ sum-swap n m (λ i k. y i ⊗ (c k ⊗ w k i))
       ∙ sum-cong m (λ k. sum R n (λ i. y i ⊗ (c k ⊗ w k i))) (λ k. c k ⊗ dot R n y (w k))
-      (λ k l. sum-cong n (λ i. y i ⊗ (c k ⊗ w k i)) (λ i. c k ⊗ (y i ⊗ w k i)) (λ i l. mlcomm R (y i) (c k) (w k i)) ∙ sum-mul n (c k) (λ i. y i ⊗ w k i))
+      (λ k l. sum-cong n (λ i. y i ⊗ (c k ⊗ w k i)) (λ i. c k ⊗ (y i ⊗ w k i)) (λ i l. mlcomm R (y i) (c k) (w k i))
+      ∙ sum-mul n (c k) (λ i. y i ⊗ w k i))
 
   abbrev pub tab : ℕ → (ℕ → A) → List A
   tab zero f = []
@@ -128,10 +136,12 @@ module _ {A : Type 0} (R : Ring A) where
   sum-cut zero (suc j) f l h = absurd (not-suc-le-zero l)
   sum-cut (suc n) j f l h = ⊎-elim
       (λ (q : j ≡ suc n). ap (λ (k : ℕ). sum R k f) (sym q))
-      (λ (q : j < suc n). ap₂ _⊕_ (sum-cut n j f (omega arith) (λ i a b. h i a (omega arith))) (h n (omega arith) (omega arith)) ∙ zero-r R (sum R j f))
+      (λ (q : j < suc n). ap₂ _⊕_ (sum-cut n j f (omega arith) (λ i a b. h i a (omega arith))) (h n (omega arith) (omega arith))
+      ∙ zero-r R (sum R j f))
       (eq-or-lt-of-le l)
 
-  pub sum-lin : (n : ℕ) (a : A) (c d x : ℕ → A) → sum R n (λ k. (c k ⊕ a ⊗ d k) ⊗ x k) ≡ sum R n (λ k. c k ⊗ x k) ⊕ a ⊗ sum R n (λ k. d k ⊗ x k)
+  pub sum-lin : (n : ℕ) (a : A) (c d x : ℕ → A)
+      → sum R n (λ k. (c k ⊕ a ⊗ d k) ⊗ x k) ≡ sum R n (λ k. c k ⊗ x k) ⊕ a ⊗ sum R n (λ k. d k ⊗ x k)
   sum-lin zero a c d x = ring R c0 (c0 :+ v 0 :* c0) refl (λ j. a)
   sum-lin (suc n) a c d x = ap (λ z. z ⊕ (c n ⊕ a ⊗ d n) ⊗ x n) (sum-lin n a c d x)
       ∙ ring R ((v 0 :+ v 2 :* v 1) :+ (v 3 :+ v 2 :* v 4) :* v 5) ((v 0 :+ v 3 :* v 5) :+ v 2 :* (v 1 :+ v 4 :* v 5)) refl

@@ -32,7 +32,8 @@ bit-first c false = let e : (c * 2 + 0) / 2 ^ 0 % 2 ≡ 0 = ap (λ (x : ℕ). x 
 
 bit-next : (c : ℕ) (b : Bool) (j : ℕ) → bit (c * 2 + one b) (suc j) ≡ bit c j
 bit-next c b j = ap (λ (x : ℕ). eqb (x % 2) 1)
-    (ap (λ (y : ℕ). (c * 2 + one b) / y) (pow-succ' 2 j) ∙ sym (div-div-eq-div-mul (c * 2 + one b) 2 (2 ^ j)) ∙ ap (λ (y : ℕ). y / 2 ^ j) half)
+    (ap (λ (y : ℕ). (c * 2 + one b) / y) (pow-succ' 2 j) ∙ sym (div-div-eq-div-mul (c * 2 + one b) 2 (2 ^ j))
+    ∙ ap (λ (y : ℕ). y / 2 ^ j) half)
   where
     half : (c * 2 + one b) / 2 ≡ c
     half = let s = one-small b in omega arith
@@ -50,7 +51,8 @@ pub built-fits : (mark : ℕ → Bool) (n k c : ℕ) → Built mark n k c → 0 
 built-fits mark n k c h l ln = let s = h .small in let u = h .upto in
     let m : 2 ^ (n - k) ≤ 2147483648 = pow-mono {i = n - k} {j = 31} (omega arith) in omega arith
 
-pub built-turn : (mark : ℕ → Bool) (n k c x : ℕ) (b : Bool) → Built mark n k c → 0 < k → b ≡ mark (k - 1) → x ≡ one b → Built mark n (k - 1) (c * 2 + x)
+pub built-turn : (mark : ℕ → Bool) (n k c x : ℕ) (b : Bool) → Built mark n k c → 0 < k → b ≡ mark (k - 1) → x ≡ one b
+    → Built mark n (k - 1) (c * 2 + x)
 built-turn mark n k c x b h l e q = record {
   upto = omega (arith, h .upto);
   small = let s = h .small in let u = h .upto in let o = one-small b in

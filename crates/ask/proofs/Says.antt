@@ -27,16 +27,19 @@ use Rattle.ask.specs.Says.{AskSays}
 
 -- A call that is not refused is on a valid scheme.
 pub ask-valid : (s : Shape) (labels entries : List ℕ) (set m n : ℕ) → askRefusal s labels entries set m n ≡ 0 → Valid s labels entries
-ask-valid s labels entries set m n h = valid s labels entries _ (orElse-zero _ _ (sym (refusal-more s labels entries _ (setRefusal (s .n) set)) ∙ h) .0)
+ask-valid s labels entries set m n h = valid s labels entries _
+    (orElse-zero _ _ (sym (refusal-more s labels entries _ (setRefusal (s .n) set)) ∙ h) .0)
 
 -- And its result lists have their lengths.
 pub ask-lengths : (s : Shape) (labels entries : List ℕ) (set m n : ℕ) → askRefusal s labels entries set m n ≡ 0 → (m ≡ s .d) × (n ≡ s .e)
 ask-lengths s labels entries set m n h =
-    let f = valid-fits s labels entries (eqb m (s .d) && eqb n (s .e)) (orElse-zero _ _ (sym (refusal-more s labels entries _ (setRefusal (s .n) set)) ∙ h) .0) in
+    let f = valid-fits s labels entries (eqb m (s .d) && eqb n (s .e))
+    (orElse-zero _ _ (sym (refusal-more s labels entries _ (setRefusal (s .n) set)) ∙ h) .0) in
     let w = and-true (eqb m (s .d)) (eqb n (s .e)) f in
     (eqb-true m (s .d) (w .0), eqb-true n (s .e) (w .1))
 
-pub says-refused : (s : Shape) (labels entries : List ℕ) (set : ℕ) (r z : List ℕ) (k : ℕ) → k ≡ askRefusal s labels entries set (length r) (length z)
+pub says-refused : (s : Shape) (labels entries : List ℕ) (set : ℕ) (r z : List ℕ) (k : ℕ)
+    → k ≡ askRefusal s labels entries set (length r) (length z)
     → (k ≡ 0 → ⊥) → AskSays s labels entries set r z (Refused k) r z
 unfolding AskSays
 says-refused s labels entries set r z k e h = (sym e, omega arith, refl, refl)
@@ -64,9 +67,11 @@ module _ (s : Shape) (labels entries : List ℕ) (set : ℕ) (r z r′ z′ : Li
       (h, witness-same (s .p) (s .d) (s .e) (entry (s .e) entries) (bit chosen) (ofSet set labels) same (place z′) (w .0), w .1, w .2)
 
 -- On a scheme, with a set of its participants and lists of their lengths, the call is not refused.
-pub ask-answers : (s : Shape) (labels entries : List ℕ) (set : ℕ) → IsScheme s labels entries → set < 2 ^ s .n → askRefusal s labels entries set (s .d) (s .e) ≡ 0
+pub ask-answers : (s : Shape) (labels entries : List ℕ) (set : ℕ) → IsScheme s labels entries → set < 2 ^ s .n
+    → askRefusal s labels entries set (s .d) (s .e) ≡ 0
 ask-answers s labels entries set h l =
-    ap₂ (λ b k. refusalOf s labels entries b k) (ap₂ _&&_ (eq-eqb (s .d) (s .d) refl) (eq-eqb (s .e) (s .e) refl)) (ap (λ b. unless b 8) (lt-ltb set (2 ^ s .n) l)) ∙ h
+    ap₂ (λ b k. refusalOf s labels entries b k) (ap₂ _&&_ (eq-eqb (s .d) (s .d) refl) (eq-eqb (s .e) (s .e) refl))
+    (ap (λ b. unless b 8) (lt-ltb set (2 ^ s .n) l)) ∙ h
 
 -- Two outcomes that the contract permits are equal: "One r only meets this", "One z only meets this".
 module _ (s : Shape) (labels entries : List ℕ) (set : ℕ) (r z : List ℕ) where
@@ -117,11 +122,13 @@ module _ (s : Shape) (labels entries : List ℕ) (set : ℕ) (r z : List ℕ) wh
   pub says-is-open : (r₁ z₁ : List ℕ) → AskSays s labels entries set r z Open r₁ z₁ → Set.Open s labels entries set
   unfolding AskSays
   says-is-open r₁ z₁ x = let v = ask-valid s labels entries set (length r) (length z) (x .0) in
-      subst (λ (e : ℕ). Rows.Open (s .p) (s .d) e E chosen) (sym (columns v)) (opening-open (s .p) (v .prime) (s .d) (s .e - 1) E chosen (place r₁)
+      subst (λ (e : ℕ). Rows.Open (s .p) (s .d) e E chosen) (sym (columns v))
+      (opening-open (s .p) (v .prime) (s .d) (s .e - 1) E chosen (place r₁)
       (subst (λ (e : ℕ). Rows.OpeningVector (s .p) (s .d) e E chosen (place r₁)) (columns v) (x .1)))
 
   pub says-is-closed : (r₁ z₁ : List ℕ) → AskSays s labels entries set r z Closed r₁ z₁ → Set.Closed s labels entries set
   unfolding AskSays
   says-is-closed r₁ z₁ x = let v = ask-valid s labels entries set (length r) (length z) (x .0) in
-      subst (λ (e : ℕ). Rows.Closed (s .p) (s .d) e E chosen) (sym (columns v)) (witness-closed (s .p) (v .prime) (s .d) (s .e - 1) E chosen (place z₁)
+      subst (λ (e : ℕ). Rows.Closed (s .p) (s .d) e E chosen) (sym (columns v))
+      (witness-closed (s .p) (v .prime) (s .d) (s .e - 1) E chosen (place z₁)
       (subst (λ (e : ℕ). Rows.Witness (s .p) (s .d) e E chosen (place z₁)) (columns v) (x .1)))

@@ -71,7 +71,8 @@ pub fn ask(
     r: &mut [u32],
     z: &mut [u32],
 ) -> Verdict
-    ensures { λ a. ⌜ AskSays s (now (labels .entry)) (now (entries .entry)) set (now (r .entry)) (now (z .entry)) a (now (r .exit)) (now (z .exit)) ⌝ }
+    ensures { λ a. ⌜ AskSays s (now (labels .entry)) (now (entries .entry)) set (now (r .entry))
+        (now (z .entry)) a (now (r .exit)) (now (z .exit)) ⌝ }
 {
     let bad = ask_refusal(s, labels, entries, set, r.len(), z.len());
     if bad != 0 {

@@ -56,7 +56,8 @@ pub open-init : (p k s d q : ℕ) (t : List (List ℕ)) (v a r : List ℕ) → k
     → getD r k 0 ≡ q → ((i : ℕ) → (i ≡ k → ⊥) → getD r i 0 ≡ 0) → Solved p k s t v d s a r
 open-init p k s d q t v a r l eq za at-k zr = record {
   is = λ H n W goal fd.
-      solve-start (residues p H) n W k s (linesOf p H t) (fd .basis) d goal (facsOf p H v) (fd .x) (asked p H v) (facsOf p H a) (vecOf p H r)
+      solve-start (residues p H) n W k s (linesOf p H t) (fd .basis) d goal (facsOf p H v) (fd .x) (asked p H v) (facsOf p H a)
+      (vecOf p H r)
       (fd .c) (res p H (getD v 24 0)) l (fd .reduced) (fd .inside) (fd .unit) (fd .goals) (λ l ll. refl) (λ l. ap (res p H) (za (12 + l)))
       (ap (res p H) (at-k ∙ eq)) (λ i ne. ap (res p H) (zr i ne));
 }
@@ -65,13 +66,15 @@ open-init p k s d q t v a r l eq za at-k zr = record {
 abbrev pub weightOf : ℕ → ℕ → List (List ℕ) → List ℕ → List ℕ → ℕ → ℕ
 weightOf p s t v a j = at t j 24 * ((getD v 24 0 * getD v (12 + j) 0 % p + colSum a t s (12 + j)) % p) % p
 
-pub open-go : (p k s d j j′ x : ℕ) (t : List (List ℕ)) (v a r : List ℕ) → j ≡ suc j′ → j ≤ s → k ≤ d → 12 + j′ < length a → at t j′ 26 < length r
+pub open-go : (p k s d j j′ x : ℕ) (t : List (List ℕ)) (v a r : List ℕ) → j ≡ suc j′ → j ≤ s → k ≤ d → 12 + j′ < length a
+    → at t j′ 26 < length r
     → x ≡ weightOf p s t v a j′ → Solved p k s t v d j a r → Solved p k s t v d j′ (set a (12 + j′) x) (set r (at t j′ 26) x)
 open-go p k s d j j′ x t v a r qj lj ld la lr ex o = record {
   is = λ H n W goal fd.
       solve-step (residues p H) n W k s (linesOf p H t) (fd .basis) d goal (asked p H v) j′
       (facsOf p H a) (vecOf p H r) (facsOf p H (set a (12 + j′) x)) (vecOf p H (set r (at t j′ 26) x)) ld (omega arith)
-      (subst (λ (j : ℕ). Solving (residues p H) n W s (linesOf p H t) d goal (asked p H v) j (facsOf p H a) (vecOf p H r)) qj (o .is H n W goal fd))
+      (subst (λ (j : ℕ). Solving (residues p H) n W s (linesOf p H t) d goal (asked p H v) j (facsOf p H a) (vecOf p H r)) qj
+      (o .is H n W goal fd))
       (ap (res p H) (getD-set-same a (12 + j′) x 0 la ∙ ex) ∙ res-times p H (at t j′ 24) (h % p)
       ∙ ap (λ z. _⊗_ p H (res p H (at t j′ 24)) z)
       (res-mod p H h ∙ res-col p H b s (λ l. getD a (12 + l) 0) (λ l. at t l (12 + j′))
@@ -104,7 +107,8 @@ openings-start p k s d q t v a r l eq lq nr na za at-k zr = record {
   lenr = nr;
   lena = na;
   smalla = λ i. rw (za i) (omega arith);
-  smallr = λ i. ⊎-elim (λ (e : i ≡ k). subst⁻¹ (λ (i : ℕ). getD r i 0 < p) e (subst⁻¹ (λ (x : ℕ). x < p) at-k lq)) (λ ne. rw (zr i ne) (omega arith)) (same? i k);
+  smallr = λ i. ⊎-elim (λ (e : i ≡ k). subst⁻¹ (λ (i : ℕ). getD r i 0 < p) e (subst⁻¹ (λ (x : ℕ). x < p) at-k lq))
+      (λ ne. rw (zr i ne) (omega arith)) (same? i k);
   solved = open-init p k s d q t v a r l eq za at-k zr;
 }
 
@@ -120,7 +124,8 @@ openings-turn p k s d j x t v a r lj ls lk lr ex o = let u = o .upto in let na =
   solved = open-go p k s d j (j - 1) x t v a r (omega arith) u (omega arith) (omega arith) (omega arith) (ex .0) (o .solved);
 }
 
-pub openings-end : (p k s j : ℕ) (t : List (List ℕ)) (v a r₀ r : List ℕ) (d : ℕ) → d ≡ length r₀ → j ≤ 0 → Openings p k s t v d j a r → Opened p k s t v r₀ r
+pub openings-end : (p k s j : ℕ) (t : List (List ℕ)) (v a r₀ r : List ℕ) (d : ℕ) → d ≡ length r₀ → j ≤ 0 → Openings p k s t v d j a r
+    → Opened p k s t v r₀ r
 openings-end p k s j t v a r₀ r d e l o = let z : j ≡ 0 = omega arith in record {
   len = o .lenr ∙ e;
   small = o .smallr;
@@ -136,7 +141,8 @@ pub record Killings (p s : ℕ) (t : List (List ℕ)) (f j : ℕ) (y : List ℕ)
   pub one : getD y f 0 ≡ 1
   pub killed : Killed p s t f j y
 
-pub killings-start : (p s f : ℕ) (t : List (List ℕ)) (y : List ℕ) → 1 < p → f < 27 → length y ≡ 27 → ((i : ℕ) → getD y i 0 ≡ 0) → Killings p s t f s (set y f 1)
+pub killings-start : (p s f : ℕ) (t : List (List ℕ)) (y : List ℕ) → 1 < p → f < 27 → length y ≡ 27 → ((i : ℕ) → getD y i 0 ≡ 0)
+    → Killings p s t f s (set y f 1)
 killings-start p s f t y lp lf n z = record {
   upto = omega arith;
   len = length-set y f 1 ∙ n;
@@ -146,7 +152,8 @@ killings-start p s f t y lp lf n z = record {
 }
 
 pub killings-turn : (p e s f j x r : ℕ) (t : List (List ℕ)) (y : List ℕ) → e ≡ suc f → e ≤ 12 → 0 < j → at t (j - 1) 25 < f
-    → (x ≡ rowSum y t (j - 1) e % p) × (x < p) → (r ≡ (p - x) % p) × (r < p) → Killings p s t f j y → Killings p s t f (j - 1) (set y (at t (j - 1) 25) r)
+    → (x ≡ rowSum y t (j - 1) e % p) × (x < p) → (r ≡ (p - x) % p) × (r < p) → Killings p s t f j y
+    → Killings p s t f (j - 1) (set y (at t (j - 1) 25) r)
 killings-turn p e s f j x r t y qe le lj lc ex er o = let u = o .upto in let n = o .len in record {
   upto = omega arith;
   len = length-set y (at t (j - 1) 25) r ∙ o .len;

@@ -53,7 +53,9 @@ fn weight(
     requires { ⌜ Ratio p inv ⌝ }
     requires { ⌜ Low p (now a) ⌝ }
     requires { ⌜ Lows p (now t) ⌝ }
-    ensures { λ r. ⌜ (r ≡ at (now (t .entry)) j 24 * ((getD (now (v .entry)) 24 0 * getD (now (v .entry)) (12 + j) 0 % p + colSum (now (a .entry)) (now (t .entry)) s (12 + j)) % p) % p) × (r < p) ⌝ }
+    ensures { λ r. ⌜ (r ≡ at (now (t .entry)) j 24
+        * ((getD (now (v .entry)) 24 0 * getD (now (v .entry)) (12 + j) 0 % p
+        + colSum (now (a .entry)) (now (t .entry)) s (12 + j)) % p) % p) × (r < p) ⌝ }
 {
     let q = v[24];
     let g = v[12 + j];

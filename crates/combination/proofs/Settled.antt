@@ -19,11 +19,13 @@ module _ (p : ℕ) (H : Prime p) (m n : ℕ) (vectors target : List ℕ) where
   same-answer false true c c′ a a′ = absurd (never-both p H n (entry n vectors) m (place target) (place c′) (a′ .yes refl) (a .no refl))
   same-answer false false c c′ a a′ = refl
 
-  pub settled : (b b′ : Bool) (c c′ : List ℕ) → length c ≡ m → length c′ ≡ m → Found p m n vectors target b c → Found p m n vectors target b′ c′
+  pub settled : (b b′ : Bool) (c c′ : List ℕ) → length c ≡ m → length c′ ≡ m → Found p m n vectors target b c
+      → Found p m n vectors target b′ c′
       → (b ≡ b′) × (b ≡ true → c ≡ c′)
   settled b b′ c c′ l l′ a a′ =
       let e = same-answer b b′ c c′ a a′ in (
         e,
         λ q. ext-getD 0 c c′ (l ∙ sym l′) (λ k lk.
-            coefficients-unique p H n (entry n vectors) m (place target) (place c) (place c′) (a .yes q) (a′ .yes (sym e ∙ q)) k (omega arith)),
+            coefficients-unique p H n (entry n vectors) m (place target) (place c) (place c′) (a .yes q) (a′ .yes (sym e ∙ q)) k
+            (omega arith)),
       )

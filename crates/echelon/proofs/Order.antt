@@ -45,8 +45,10 @@ module _ {A : Type 0} (K : Field A) (f : ℕ) (M : ℕ → ℕ → A) where
       go i l false q = subst⁻¹ (At i) q (c .1 zero (omega arith))
 
   -- What the working rows add up to, read in the document's order; the target for t at the last place 1.
-  pub from-order : (m : ℕ) (r t u : ℕ → A) → AddUp K (suc f) (work K f M) m r t → t f ≡ u zero → ((j : ℕ) → j < f → t j ≡ u (suc j)) → AddUp K (suc f) M m r u
-  from-order m r t u h last before zero l = sum-cong R m (λ k. r k ⊗ M k zero) (λ k. r k ⊗ work K f M k f) (λ k lk. ap (λ z. r k ⊗ z) (sym (at-last k)))
+  pub from-order : (m : ℕ) (r t u : ℕ → A) → AddUp K (suc f) (work K f M) m r t → t f ≡ u zero → ((j : ℕ) → j < f → t j ≡ u (suc j))
+      → AddUp K (suc f) M m r u
+  from-order m r t u h last before zero l = sum-cong R m (λ k. r k ⊗ M k zero) (λ k. r k ⊗ work K f M k f)
+      (λ k lk. ap (λ z. r k ⊗ z) (sym (at-last k)))
       ∙ h f (omega arith) ∙ last
   from-order m r t u h last before (suc j) l = let b : j < f = le-of-suc-le-suc l in
       sum-cong R m (λ k. r k ⊗ M k (suc j)) (λ k. r k ⊗ work K f M k j) (λ k lk. ap (λ z. r k ⊗ z) (sym (before-last k j b)))
@@ -63,7 +65,8 @@ module _ {A : Type 0} (K : Field A) (f : ℕ) (M : ℕ → ℕ → A) where
       → ((k : ℕ) → k < d → dot R (suc f) y (work K f M k) ≡ 𝟘) → (k : ℕ) → k < d → dot R (suc f) z (M k) ≡ 𝟘
   kills-order d z y z0 zs h k l = sum-first R f (λ j. z j ⊗ M k j)
       ∙ ap₂ _⊕_ (ap (λ x. x ⊗ M k zero) z0 ∙ mcomm (y f) (M k zero))
-      (sum-cong R f (λ i. z (suc i) ⊗ M k (suc i)) (λ i. M k (suc i) ⊗ y i) (λ i li. ap (λ x. x ⊗ M k (suc i)) (zs i li) ∙ mcomm (y i) (M k (suc i))))
+      (sum-cong R f (λ i. z (suc i) ⊗ M k (suc i)) (λ i. M k (suc i) ⊗ y i)
+      (λ i li. ap (λ x. x ⊗ M k (suc i)) (zs i li) ∙ mcomm (y i) (M k (suc i))))
       ∙ comm (M k zero ⊗ y f) (sum R f (λ i. M k (suc i) ⊗ y i))
       ∙ sym (sum-put R f (λ i. M k (suc i)) (M k zero) y) ∙ dot-comm R (suc f) (work K f M k) y ∙ h k l
 
@@ -72,7 +75,8 @@ module _ {A : Type 0} (K : Field A) (f : ℕ) (M : ℕ → ℕ → A) where
   columns-order d z y zs c j l q = zs j l ∙ c j l (
     q .0,
     λ k lk.
-        sum-cong R j (λ i. q .0 i ⊗ work K f M k i) (λ i. q .0 i ⊗ M k (suc i)) (λ i li. ap (λ x. q .0 i ⊗ x) (before-last k i (omega arith)))
+        sum-cong R j (λ i. q .0 i ⊗ work K f M k i) (λ i. q .0 i ⊗ M k (suc i))
+        (λ i li. ap (λ x. q .0 i ⊗ x) (before-last k i (omega arith)))
         ∙ q .1 k lk ∙ sym (before-last k j l),
   )
 
@@ -102,7 +106,8 @@ module _ (p : ℕ) (H : Prime p) (d f : ℕ) (E : ℕ → ℕ → ℕ) (chosen :
     only = subst⁻¹ (λ (m : ℕ). (j : ℕ) → j < m → kept (residues p H) d columns j ≡ false → z (suc j) ≡ 0) others
         (λ j l q. sym (mod-eq-of-lt (small (suc j) (omega arith))) ∙ res-zero p H (res p H (z (suc j)))
         (canon-only (residues p H) d columns f (λ j. res p H (z (suc j)))
-        (columns-order (residues p H) f (matrix p H E chosen) d (λ j. res p H (z j)) (λ i. res p H (y i)) (λ i l. ap (res p H) (zs i l)) canon) j l q));
+        (columns-order (residues p H) f (matrix p H E chosen) d (λ j. res p H (z j)) (λ i. res p H (y i))
+        (λ i l. ap (res p H) (zs i l)) canon) j l q));
     kills = λ k l. kills-unmask p (suc f) E chosen z k (dot-iff p H (suc f) z (rowsOf E chosen k) 0 .1
         (kills-order (residues p H) f (matrix p H E chosen) d (λ j. res p H (z j)) (λ i. res p H (y i))
         (ap (res p H) (z0 ∙ sym yf)) (λ i l. ap (res p H) (zs i l)) kills k l) ∙ zero-mod p);

@@ -34,7 +34,8 @@ count-le (suc n) b = let h = count-le n b in let k : cond (b n) 1 0 ≤ 1 = go (
     go false = omega arith
 
 -- one more mark
-count-set : (n c : ℕ) (f g : ℕ → Bool) → c < n → f c ≡ false → g c ≡ true → ((i : ℕ) → (i ≡ c → ⊥) → g i ≡ f i) → count n g ≡ suc (count n f)
+count-set : (n c : ℕ) (f g : ℕ → Bool) → c < n → f c ≡ false → g c ≡ true → ((i : ℕ) → (i ≡ c → ⊥) → g i ≡ f i)
+    → count n g ≡ suc (count n f)
 count-set zero c f g l a b h = absurd (not-suc-le-zero l)
 count-set (suc n) c f g l a b h = ⊎-elim
     (λ (q : c ≡ n). ap₂ (λ (x : ℕ) y. x + cond y 1 0) (count-cong n g f (λ i li. h i (λ r. omega arith))) (ap g (sym q) ∙ b)
@@ -107,18 +108,23 @@ module _ {A : Type 0} (K : Field A) (n : ℕ) (w : ℕ → ℕ → A) where
 
     pub columns-kept : count n (kept K m (λ i k. w k i)) ≡ s
     columns-kept = count-cong n (kept K m (λ i k. w k i)) (isPiv s) (λ i l. ⊎-elim
-        (λ f. kept-true K m (λ i k. w k i) i (λ c. pivot-new K n w m s S b (f .0) (f .1) (subst (λ (i : ℕ). Comb K m (λ i k. w k i) i (λ k. w k i)) (f .2) c)) ∙ sym (f .3))
+        (λ f. kept-true K m (λ i k. w k i) i
+        (λ c. pivot-new K n w m s S b (f .0) (f .1) (subst (λ (i : ℕ). Comb K m (λ i k. w k i) i (λ k. w k i)) (f .2) c)) ∙ sym (f .3))
         (λ f. kept-false K m (λ i k. w k i) i (others i l (f .0)) ∙ sym (f .1))
         (find s i)) ∙ pivots s (omega arith)
 
   -- a place is free
-  pub room : (m s : ℕ) (S : ℕ → Line A) (b : Basis K n w m s S) (g x : ℕ → A) (c : ℕ) (q : A) → Reduced K n w s S (w m) g x → c < n → ((i : ℕ) → i < c → x i ≡ 𝟘) → q ⊗ x c ≡ 𝟙 → s < n
+  pub room : (m s : ℕ) (S : ℕ → Line A) (b : Basis K n w m s S) (g x : ℕ → A) (c : ℕ) (q : A) → Reduced K n w s S (w m) g x → c < n
+      → ((i : ℕ) → i < c → x i ≡ 𝟘) → q ⊗ x c ≡ 𝟙 → s < n
   room m s S b g x c q r lc zs u = let y : Line A = record { vec = λ i. q ⊗ x i; fac = g; inv = q; piv = c; src = m } in
-      let b′ = keep K n w m s S b (λ j. cond (ltb j s) (S j) y) g x (y .vec) g c q r lc zs u (λ j l. ap (λ x. cond x (S j) y) (lt-ltb j s l)) (ap (λ x. cond x (S s) y) (le-ltb s s (omega arith))) (λ i l. refl) (λ l ll. refl) in
+      let b′ = keep K n w m s S b (λ j. cond (ltb j s) (S j) y) g x (y .vec) g c q r lc zs u
+      (λ j l. ap (λ x. cond x (S j) y) (lt-ltb j s l)) (ap (λ x. cond x (S s) y) (le-ltb s s (omega arith))) (λ i l. refl)
+      (λ l ll. refl) in
       omega (arith, columns-kept (suc m) (suc s) (λ j. cond (ltb j s) (S j) y) b′, count-le n (kept K (suc m) (λ i k. w k i)))
 
   -- an elimination exists, whatever the code does
-  factors : (S : ℕ → Line A) (t : ℕ → A) (s : ℕ) → (g : ℕ → A) × ((j : ℕ) → j < s → g j ≡ neg (t (S j .piv) ⊕ sum R j (λ l. g l ⊗ S l .vec (S j .piv))))
+  factors : (S : ℕ → Line A) (t : ℕ → A) (s : ℕ)
+      → (g : ℕ → A) × ((j : ℕ) → j < s → g j ≡ neg (t (S j .piv) ⊕ sum R j (λ l. g l ⊗ S l .vec (S j .piv))))
   factors S t zero = ((λ j. 𝟘), λ j l. absurd (not-suc-le-zero l))
   factors S t (suc s) = more (factors S t s)
     where
@@ -133,8 +139,11 @@ module _ {A : Type 0} (K : Field A) (n : ℕ) (w : ℕ → ℕ → A) where
           a : A
           a = neg (t (S s .piv) ⊕ sum R s (λ l. g l ⊗ S l .vec (S s .piv)))
 
-          same : (j : ℕ) → j ≤ s → neg (t (S j .piv) ⊕ sum R j (λ l. g l ⊗ S l .vec (S j .piv))) ≡ neg (t (S j .piv) ⊕ sum R j (λ l. put R s g a l ⊗ S l .vec (S j .piv)))
-          same j l = ap (λ z. neg (t (S j .piv) ⊕ z)) (sum-cong R j (λ l. g l ⊗ S l .vec (S j .piv)) (λ l. put R s g a l ⊗ S l .vec (S j .piv))
+          same : (j : ℕ) → j ≤ s
+              → neg (t (S j .piv) ⊕ sum R j (λ l. g l ⊗ S l .vec (S j .piv))) ≡ neg
+              (t (S j .piv) ⊕ sum R j (λ l. put R s g a l ⊗ S l .vec (S j .piv)))
+          same j l = ap (λ z. neg (t (S j .piv) ⊕ z))
+              (sum-cong R j (λ l. g l ⊗ S l .vec (S j .piv)) (λ l. put R s g a l ⊗ S l .vec (S j .piv))
               (λ i li. ap (λ z. z ⊗ S i .vec (S j .piv)) (sym (put-lt R s g a i (omega arith)))))
 
   first : (x : ℕ → A) (k : ℕ) → ((i : ℕ) → i < k → x i ≡ 𝟘) ⊎ ((c : ℕ) × (c < k) × ((i : ℕ) → i < c → x i ≡ 𝟘) × (q : A) × (q ⊗ x c ≡ 𝟙))
@@ -145,18 +154,37 @@ module _ {A : Type 0} (K : Field A) (n : ℕ) (w : ℕ → ℕ → A) where
       (first x k)
 
   run : (m : ℕ) → (s : ℕ) × (S : ℕ → Line A) × Basis K n w m s S
-  run zero = (0, (λ j. record { vec = λ i. 𝟘; fac = λ i. 𝟘; inv = 𝟘; piv = 0; src = 0 }), start K n w (λ j. record { vec = λ i. 𝟘; fac = λ i. 𝟘; inv = 𝟘; piv = 0; src = 0 }))
+  run zero = (
+    0,
+    (λ j. record { vec = λ i. 𝟘; fac = λ i. 𝟘; inv = 𝟘; piv = 0; src = 0 }),
+    start K n w
+        (λ j. record { vec = λ i. 𝟘; fac = λ i. 𝟘; inv = 𝟘; piv = 0; src = 0 }),
+  )
   run (suc m) = turn (run m)
     where
       turn : (s : ℕ) × (S : ℕ → Line A) × Basis K n w m s S → (s : ℕ) × (S : ℕ → Line A) × Basis K n w (suc m) s S
       turn (s, S, b) = let f = factors S (w m) s in ⊎-elim
-          (λ z. (s, S, skip K n w m s S b (f .0) (λ i. w m i ⊕ sum R s (λ l. f .0 l ⊗ S l .vec i)) (record { facs = f .1; left = λ i l. refl }) z))
-          (λ u. let y : Line A = record { vec = λ i. u .3 ⊗ (w m i ⊕ sum R s (λ l. f .0 l ⊗ S l .vec i)); fac = f .0; inv = u .3; piv = u .0; src = m } in (
+          (λ z. (
+            s,
+            S,
+            skip K n w m s S b (f .0) (λ i. w m i ⊕ sum R s (λ l. f .0 l ⊗ S l .vec i))
+                (record { facs = f .1; left = λ i l. refl }) z,
+          ))
+          (λ u. let y : Line A = record {
+            vec = λ i. u .3 ⊗
+                (w m i ⊕ sum R s (λ l. f .0 l ⊗ S l .vec i));
+            fac = f .0;
+            inv = u .3;
+            piv = u .0;
+            src = m;
+          } in (
             suc s,
             (λ j. cond (ltb j s) (S j) y),
-            keep K n w m s S b (λ j. cond (ltb j s) (S j) y) (f .0) (λ i. w m i ⊕ sum R s (λ l. f .0 l ⊗ S l .vec i)) (y .vec) (f .0) (u .0) (u .3)
+            keep K n w m s S b (λ j. cond (ltb j s) (S j) y) (f .0) (λ i. w m i ⊕ sum R s (λ l. f .0 l ⊗ S l .vec i)) (y .vec) (f .0)
+                (u .0) (u .3)
                 (record { facs = f .1; left = λ i l. refl }) (u .1) (u .2) (u .4)
-                (λ j l. ap (λ x. cond x (S j) y) (lt-ltb j s l)) (ap (λ x. cond x (S s) y) (le-ltb s s (omega arith))) (λ i l. refl) (λ l ll. refl),
+                (λ j l. ap (λ x. cond x (S j) y) (lt-ltb j s l)) (ap (λ x. cond x (S s) y) (le-ltb s s (omega arith))) (λ i l. refl)
+                (λ l ll. refl),
           ))
           (first (λ i. w m i ⊕ sum R s (λ l. f .0 l ⊗ S l .vec i)) n)
 
@@ -164,7 +192,9 @@ module _ {A : Type 0} (K : Field A) (n : ℕ) (w : ℕ → ℕ → A) where
   pub full : (m s : ℕ) (S : ℕ → Line A) → Basis K n w m s S → s ≡ n → Basis K n w (suc m) s S
   full m s S b e = let g = factors S (w m) s in ⊎-elim
       (λ z. skip K n w m s S b (g .0) (λ i. w m i ⊕ sum R s (λ l. g .0 l ⊗ S l .vec i)) (record { facs = g .1; left = λ i l. refl }) z)
-      (λ u. absurd (let l = room m s S b (g .0) (λ i. w m i ⊕ sum R s (λ l. g .0 l ⊗ S l .vec i)) (u .0) (u .3) (record { facs = g .1; left = λ i l. refl }) (u .1) (u .2) (u .4) in omega arith))
+      (λ u. absurd
+      (let l = room m s S b (g .0) (λ i. w m i ⊕ sum R s (λ l. g .0 l ⊗ S l .vec i)) (u .0) (u .3)
+      (record { facs = g .1; left = λ i l. refl }) (u .1) (u .2) (u .4) in omega arith))
       (first (λ i. w m i ⊕ sum R s (λ l. g .0 l ⊗ S l .vec i)) n)
 
   pub rank-rank : (m : ℕ) → count m (kept K n w) ≡ count n (kept K m (λ i k. w k i))

@@ -43,12 +43,15 @@ module _ {A : Type 0} (K : Field A) (n : ℕ) (w : ℕ → ℕ → A) where
   module _ (m s : ℕ) (S : ℕ → Line A) (b : Basis K n w m s S) where
     pub cleared : (t g x : ℕ → A) → Reduced K n w s S t g x → (j : ℕ) → j < s → x (S j .piv) ≡ 𝟘
     cleared t g x r j l = r .left (S j .piv) (b .inside j l)
-        ∙ ap (λ z. t (S j .piv) ⊕ z) (sum-cut R s (suc j) (λ l. g l ⊗ S l .vec (S j .piv)) l (λ k a lk. ap (λ z. g k ⊗ z) (b .low k lk j a) ∙ mul-zero R (g k)))
+        ∙ ap (λ z. t (S j .piv) ⊕ z)
+        (sum-cut R s (suc j) (λ l. g l ⊗ S l .vec (S j .piv)) l (λ k a lk. ap (λ z. g k ⊗ z) (b .low k lk j a) ∙ mul-zero R (g k)))
         ∙ ap₂ (λ y z. t (S j .piv) ⊕ (sum R j (λ l. g l ⊗ S l .vec (S j .piv)) ⊕ y ⊗ z)) (r .facs j l) (b .one j l)
-        ∙ ring R (v 0 :+ (v 1 :+ ng (v 0 :+ v 1) :* c1)) c0 refl (λ k. getD (t (S j .piv) ∷ sum R j (λ l. g l ⊗ S l .vec (S j .piv)) ∷ []) k 𝟘)
+        ∙ ring R (v 0 :+ (v 1 :+ ng (v 0 :+ v 1) :* c1)) c0 refl
+        (λ k. getD (t (S j .piv) ∷ sum R j (λ l. g l ⊗ S l .vec (S j .piv)) ∷ []) k 𝟘)
 
     -- a combination of the vectors that is 0 at the pivots has only zeros
-    pub pinned : (c : ℕ → A) → ((j : ℕ) → j < s → sum R s (λ l. c l ⊗ S l .vec (S j .piv)) ≡ 𝟘) → (k : ℕ) → k ≤ s → (j : ℕ) → j < k → c j ≡ 𝟘
+    pub pinned : (c : ℕ → A) → ((j : ℕ) → j < s → sum R s (λ l. c l ⊗ S l .vec (S j .piv)) ≡ 𝟘) → (k : ℕ) → k ≤ s → (j : ℕ) → j < k
+        → c j ≡ 𝟘
     pinned c h zero lk = λ j l. absurd (not-suc-le-zero l)
     pinned c h (suc k) lk = let ih : (j : ℕ) → j < k → c j ≡ 𝟘 = pinned c h k (omega arith) in below-suc (λ j. c j ≡ 𝟘) k ih
         (sym (one-r R (c k)) ∙ ap (λ z. c k ⊗ z) (sym (b .one k lk))
@@ -60,7 +63,8 @@ module _ {A : Type 0} (K : Field A) (n : ℕ) (w : ℕ → ℕ → A) where
 
     -- what is left of a combination is 0
     pub gone : (t g x : ℕ → A) → Reduced K n w s S t g x → Comb K n w m t → (i : ℕ) → i < n → x i ≡ 𝟘
-    gone t g x r c i l = sym (is i l) ∙ sum-zero R s (λ k. h k ⊗ S k .vec i) (λ k lk. ap (λ z. z ⊗ S k .vec i) (none k lk) ∙ zero-mul R (S k .vec i))
+    gone t g x r c i l = sym (is i l)
+        ∙ sum-zero R s (λ k. h k ⊗ S k .vec i) (λ k lk. ap (λ z. z ⊗ S k .vec i) (none k lk) ∙ zero-mul R (S k .vec i))
       where
         d : Comb K n (λ j. S j .vec) s t
         d = comb-over K n w (λ j. S j .vec) m s t (b .rows) c
@@ -80,7 +84,8 @@ module _ {A : Type 0} (K : Field A) (n : ℕ) (w : ℕ → ℕ → A) where
     -- the row less what is left, over the vectors
     back : (t g x : ℕ → A) → Reduced K n w s S t g x → Comb K n (λ j. S j .vec) s (λ i. t i ⊕ neg (x i))
     back t g x r = comb-resp K n (λ j. S j .vec) s (λ i. neg 𝟙 ⊗ sum R s (λ l. g l ⊗ S l .vec i)) (λ i. t i ⊕ neg (x i))
-        (λ i l. ring R (ng c1 :* v 1) (v 0 :- (v 0 :+ v 1)) refl (λ j. getD (t i ∷ sum R s (λ l. g l ⊗ S l .vec i) ∷ []) j 𝟘) ∙ ap (λ z. t i ⊕ neg z) (sym (r .left i l)))
+        (λ i l. ring R (ng c1 :* v 1) (v 0 :- (v 0 :+ v 1)) refl (λ j. getD (t i ∷ sum R s (λ l. g l ⊗ S l .vec i) ∷ []) j 𝟘)
+        ∙ ap (λ z. t i ⊕ neg z) (sym (r .left i l)))
         (comb-scale K n (λ j. S j .vec) s (λ i. sum R s (λ l. g l ⊗ S l .vec i)) (neg 𝟙) (g, λ i l. refl))
 
     -- a row that is over the vectors is not kept
@@ -96,7 +101,8 @@ module _ {A : Type 0} (K : Field A) (n : ℕ) (w : ℕ → ℕ → A) where
       upto = λ j l. let u = b .upto j l in omega arith;
       rows = below-suc (λ k. Comb K n (λ j. S j .vec) s (w k)) m (b .rows) row;
       made = λ j l. comb-more K n w m (S j .vec) (b .made j l);
-      rank = ap₂ (λ (x : ℕ) y. x + cond y 1 0) (b .rank) (kept-false K n w m (comb-over K n (λ j. S j .vec) w s m (w m) (b .made) row)) ∙ omega arith;
+      rank = ap₂ (λ (x : ℕ) y. x + cond y 1 0) (b .rank) (kept-false K n w m (comb-over K n (λ j. S j .vec) w s m (w m) (b .made) row))
+          ∙ omega arith;
     }
 
     pub drop-zero : ((i : ℕ) → i < n → w m i ≡ 𝟘) → Basis K n w (suc m) s S
@@ -106,7 +112,8 @@ module _ {A : Type 0} (K : Field A) (n : ℕ) (w : ℕ → ℕ → A) where
     skip g x r z = drop (comb-resp K n (λ j. S j .vec) s (λ i. w m i ⊕ neg (x i)) (w m)
         (λ i l. ap (λ y. w m i ⊕ neg y) (z i l) ∙ ring R (v 0 :- c0) (v 0) refl (λ j. w m i)) (back (w m) g x r))
 
-    pub keep : (S′ : ℕ → Line A) (g x y f : ℕ → A) (c : ℕ) (q : A) → Reduced K n w s S (w m) g x → c < n → ((i : ℕ) → i < c → x i ≡ 𝟘) → q ⊗ x c ≡ 𝟙
+    pub keep : (S′ : ℕ → Line A) (g x y f : ℕ → A) (c : ℕ) (q : A) → Reduced K n w s S (w m) g x → c < n → ((i : ℕ) → i < c → x i ≡ 𝟘)
+        → q ⊗ x c ≡ 𝟙
         → ((j : ℕ) → j < s → S′ j ≡ S j) → S′ s ≡ record { vec = y; fac = f; inv = q; piv = c; src = m }
         → ((i : ℕ) → i < n → y i ≡ q ⊗ x i) → ((l : ℕ) → l < s → f l ≡ g l) → Basis K n w (suc m) (suc s) S′
     keep S′ g x y f c q r lc zs u old at ys fs = record {
@@ -121,28 +128,35 @@ module _ {A : Type 0} (K : Field A) (n : ℕ) (w : ℕ → ℕ → A) where
       form = below-suc (λ j. (i : ℕ) → i < n → S′ j .vec i ≡ S′ j .inv ⊗ (w (S′ j .src) i ⊕ sum R j (λ l. S′ j .fac l ⊗ S′ l .vec i))) s
           (λ j lj i li. ap (λ z. z .vec i) (old j lj) ∙ b .form j lj i li
           ∙ sym (ap₂ (λ z y. z .inv ⊗ (w (z .src) i ⊕ y)) (old j lj)
-          (sum-cong R j (λ l. S′ j .fac l ⊗ S′ l .vec i) (λ l. S j .fac l ⊗ S l .vec i) (λ l ll. ap₂ (λ z y. z .fac l ⊗ y .vec i) (old j lj) (old l (omega arith))))))
+          (sum-cong R j (λ l. S′ j .fac l ⊗ S′ l .vec i) (λ l. S j .fac l ⊗ S l .vec i)
+          (λ l ll. ap₂ (λ z y. z .fac l ⊗ y .vec i) (old j lj) (old l (omega arith))))))
           (λ i li. ap (λ z. z .vec i) at ∙ ys i li ∙ ap (λ z. q ⊗ z) (r .left i li)
           ∙ sym (ap₂ (λ z y. z .inv ⊗ (w (z .src) i ⊕ y)) at
-          (sum-cong R s (λ l. S′ s .fac l ⊗ S′ l .vec i) (λ l. g l ⊗ S l .vec i) (λ l ll. ap₂ (λ z y. z .fac l ⊗ y .vec i) at (old l ll) ∙ ap (λ z. z ⊗ S l .vec i) (fs l ll)))));
+          (sum-cong R s (λ l. S′ s .fac l ⊗ S′ l .vec i) (λ l. g l ⊗ S l .vec i)
+          (λ l ll. ap₂ (λ z y. z .fac l ⊗ y .vec i) at (old l ll) ∙ ap (λ z. z ⊗ S l .vec i) (fs l ll)))));
       upto = below-suc (λ j. S′ j .src < suc m) s (λ j l. rw (old j l) (let z = b .upto j l in omega arith)) (rw at (omega arith));
       rising = below-suc (λ j. (l : ℕ) → l < j → S′ l .src < S′ j .src) s
           (λ j lj l ll. rw (old j lj, old l (omega arith)) (b .rising j lj l ll))
           (λ l ll. rw (at, old l ll) (b .upto l ll));
-      fresh = below-suc (λ j. Comb K n w (S′ j .src) (w (S′ j .src)) → ⊥) s (λ j l. rw (old j l) (b .fresh j l)) (rw at (new g x c q r lc u));
+      fresh = below-suc (λ j. Comb K n w (S′ j .src) (w (S′ j .src)) → ⊥) s (λ j l. rw (old j l) (b .fresh j l))
+          (rw at (new g x c q r lc u));
       rows = below-suc (λ k. Comb K n (λ j. S′ j .vec) (suc s) (w k)) m
-          (λ k l. comb-more K n (λ j. S′ j .vec) s (w k) (comb-same K n (λ j. S j .vec) (λ j. S′ j .vec) s (w k) (λ j lj. ap (λ z. z .vec) (old j lj)) (b .rows k l)))
+          (λ k l. comb-more K n (λ j. S′ j .vec) s (w k)
+          (comb-same K n (λ j. S j .vec) (λ j. S′ j .vec) s (w k) (λ j lj. ap (λ z. z .vec) (old j lj)) (b .rows k l)))
           (comb-resp K n (λ j. S′ j .vec) (suc s) (λ i. w m i ⊕ neg (x i) ⊕ x c ⊗ S′ s .vec i) (w m)
           (λ i l. ap (λ z. w m i ⊕ neg (x i) ⊕ x c ⊗ z) (ap (λ z. z .vec i) at ∙ ys i l)
           ∙ ring R (v 0 :- v 1 :+ v 2 :* (v 3 :* v 1)) (v 0 :- v 1 :+ (v 3 :* v 2) :* v 1) refl (λ j. getD (w m i ∷ x i ∷ x c ∷ q ∷ []) j 𝟘)
           ∙ ap (λ z. w m i ⊕ neg (x i) ⊕ z ⊗ x i) u ∙ ring R (v 0 :- v 1 :+ c1 :* v 1) (v 0) refl (λ j. getD (w m i ∷ x i ∷ []) j 𝟘))
           (comb-put K n (λ j. S′ j .vec) s (λ i. w m i ⊕ neg (x i)) (x c)
-          (comb-same K n (λ j. S j .vec) (λ j. S′ j .vec) s (λ i. w m i ⊕ neg (x i)) (λ j lj. ap (λ z. z .vec) (old j lj)) (back (w m) g x r))));
+          (comb-same K n (λ j. S j .vec) (λ j. S′ j .vec) s (λ i. w m i ⊕ neg (x i)) (λ j lj. ap (λ z. z .vec) (old j lj))
+          (back (w m) g x r))));
       made = below-suc (λ j. Comb K n w (suc m) (S′ j .vec)) s
           (λ j l. rw (old j l) (comb-more K n w m (S j .vec) (b .made j l)))
           (rw at (comb-resp K n w (suc m) (λ i. q ⊗ sum R s (λ l. g l ⊗ S l .vec i) ⊕ q ⊗ w m i) y
-          (λ i l. ring R (v 0 :* v 1 :+ v 0 :* v 2) (v 0 :* (v 2 :+ v 1)) refl (λ j. getD (q ∷ sum R s (λ l. g l ⊗ S l .vec i) ∷ w m i ∷ []) j 𝟘)
+          (λ i l. ring R (v 0 :* v 1 :+ v 0 :* v 2) (v 0 :* (v 2 :+ v 1)) refl
+          (λ j. getD (q ∷ sum R s (λ l. g l ⊗ S l .vec i) ∷ w m i ∷ []) j 𝟘)
           ∙ ap (λ z. q ⊗ z) (sym (r .left i l)) ∙ sym (ys i l))
-          (comb-put K n w m (λ i. q ⊗ sum R s (λ l. g l ⊗ S l .vec i)) q (comb-scale K n w m (λ i. sum R s (λ l. g l ⊗ S l .vec i)) q (comb-sum K n w m s (λ j. S j .vec) g (b .made))))));
+          (comb-put K n w m (λ i. q ⊗ sum R s (λ l. g l ⊗ S l .vec i)) q
+          (comb-scale K n w m (λ i. sum R s (λ l. g l ⊗ S l .vec i)) q (comb-sum K n w m s (λ j. S j .vec) g (b .made))))));
       rank = ap₂ (λ (x : ℕ) y. x + cond y 1 0) (b .rank) (kept-true K n w m (new g x c q r lc u)) ∙ omega arith;
     }

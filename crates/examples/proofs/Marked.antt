@@ -17,7 +17,8 @@ unfolding Rattle.residue.specs.Moduli.isIn
 prime17 = modulus-prime 17 refl
 
 -- An answer as a list: 1 and then r, or 0 and then z.
-abbrev pub listed : (set : ℕ) → ((r : ℕ → ℕ) × OpeningVector 17 5 3 S (inSet set) r) ⊎ ((z : ℕ → ℕ) × Witness 17 5 3 S (inSet set) z) → List ℕ
+abbrev pub listed : (set : ℕ) → ((r : ℕ → ℕ) × OpeningVector 17 5 3 S (inSet set) r) ⊎ ((z : ℕ → ℕ) × Witness 17 5 3 S (inSet set) z)
+    → List ℕ
 listed set (inl r) = 1 ∷ listOf 5 (r .0)
 listed set (inr z) = 0 ∷ listOf 3 (z .0)
 
@@ -40,13 +41,15 @@ marked = refl
 pub opening-is : (set : ℕ) (r : ℕ → ℕ) → OpeningVector 17 5 3 S (inSet set) r → answer set ≡ 1 ∷ listOf 5 r
 opening-is set r o = go (open-or-closed 17 prime17 5 2 S (inSet set))
   where
-    go : (a : ((r : ℕ → ℕ) × OpeningVector 17 5 3 S (inSet set) r) ⊎ ((z : ℕ → ℕ) × Witness 17 5 3 S (inSet set) z)) → listed set a ≡ 1 ∷ listOf 5 r
+    go : (a : ((r : ℕ → ℕ) × OpeningVector 17 5 3 S (inSet set) r) ⊎ ((z : ℕ → ℕ) × Witness 17 5 3 S (inSet set) z))
+        → listed set a ≡ 1 ∷ listOf 5 r
     go (inl q) = ap (λ (l : List ℕ). 1 ∷ l) (list-cong 5 (q .0) r (opening-unique 17 prime17 5 2 S (inSet set) (q .0) r (q .1) o))
     go (inr z) = absurd (open-not-closed 17 prime17 5 2 S (inSet set) r (z .0) o (z .1))
 
 pub witness-is : (set : ℕ) (z : ℕ → ℕ) → Witness 17 5 3 S (inSet set) z → answer set ≡ 0 ∷ listOf 3 z
 witness-is set z c = go (open-or-closed 17 prime17 5 2 S (inSet set))
   where
-    go : (a : ((r : ℕ → ℕ) × OpeningVector 17 5 3 S (inSet set) r) ⊎ ((z : ℕ → ℕ) × Witness 17 5 3 S (inSet set) z)) → listed set a ≡ 0 ∷ listOf 3 z
+    go : (a : ((r : ℕ → ℕ) × OpeningVector 17 5 3 S (inSet set) r) ⊎ ((z : ℕ → ℕ) × Witness 17 5 3 S (inSet set) z))
+        → listed set a ≡ 0 ∷ listOf 3 z
     go (inl q) = absurd (open-not-closed 17 prime17 5 2 S (inSet set) (q .0) z (q .1) c)
     go (inr q) = ap (λ (l : List ℕ). 0 ∷ l) (list-cong 3 (q .0) z (witness-unique 17 prime17 5 2 S (inSet set) (q .0) z (q .1) c))

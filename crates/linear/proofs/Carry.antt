@@ -28,9 +28,11 @@ module _ (p : ℕ) (H : Prime p) where
   res-total zero f = refl
   res-total (suc n) f = sym (res-add p H (total n f) (f n)) ∙ ap (λ z. _⊕_ p H z (res p H (f n))) (res-total n f)
 
-  pub res-dot : (n : ℕ) (f g : ℕ → ℕ) → res p H (total n (λ i. f i * g i)) ≡ dot (residueRing p H) n (λ i. res p H (f i)) (λ i. res p H (g i))
+  pub res-dot : (n : ℕ) (f g : ℕ → ℕ)
+      → res p H (total n (λ i. f i * g i)) ≡ dot (residueRing p H) n (λ i. res p H (f i)) (λ i. res p H (g i))
   res-dot n f g = res-total n (λ i. f i * g i)
-      ∙ sum-cong (residueRing p H) n (λ i. res p H (f i * g i)) (λ i. _⊗_ p H (res p H (f i)) (res p H (g i))) (λ i l. sym (res-mul p H (f i) (g i)))
+      ∙ sum-cong (residueRing p H) n (λ i. res p H (f i * g i)) (λ i. _⊗_ p H (res p H (f i)) (res p H (g i)))
+      (λ i l. sym (res-mul p H (f i) (g i)))
 
   pub dot-iff : (n : ℕ) (f g : ℕ → ℕ) (t : ℕ)
       → (total n (λ i. f i * g i) % p ≡ t % p) ↔ (dot (residueRing p H) n (λ i. res p H (f i)) (λ i. res p H (g i)) ≡ res p H t)
@@ -89,7 +91,8 @@ module _ (p : ℕ) (H : Prime p) where
       gives = λ i l. dot-iff m c (λ k. N k i) (t i) .1 (o .gives i l);
     }
 
-    pub coeffs-down : (m : ℕ) (t : ℕ → ℕ) (c : ℕ → F p) → Coeffs (residues p H) n W m (λ i. res p H (t i)) c → Coefficients p n N m t (λ k. c k .0)
+    pub coeffs-down : (m : ℕ) (t : ℕ → ℕ) (c : ℕ → F p) → Coeffs (residues p H) n W m (λ i. res p H (t i)) c
+        → Coefficients p n N m t (λ k. c k .0)
     coeffs-down m t c o = record {
       kept = o .kept;
       rule = rule-down (o .kept) m (o .keeps);
@@ -98,13 +101,15 @@ module _ (p : ℕ) (H : Prime p) where
       gives = adds-down m c t (o .gives);
     }
 
-    pub functional-up : (m : ℕ) (t y : ℕ → ℕ) → Functional p n N m t y → Separates (residues p H) n W m (λ i. res p H (t i)) (λ i. res p H (y i))
+    pub functional-up : (m : ℕ) (t y : ℕ → ℕ) → Functional p n N m t y
+        → Separates (residues p H) n W m (λ i. res p H (t i)) (λ i. res p H (y i))
     functional-up m t y f = record {
       kills = λ k l. dot-iff n y (N k) 0 .0 (f .kills k l ∙ sym (zero-mod p));
       one = dot-iff n y t 1 .0 (f .one ∙ sym (mod-eq-of-lt (H .two)));
     }
 
-    pub functional-down : (m : ℕ) (t : ℕ → ℕ) (y : ℕ → F p) → Separates (residues p H) n W m (λ i. res p H (t i)) y → Functional p n N m t (λ i. y i .0)
+    pub functional-down : (m : ℕ) (t : ℕ → ℕ) (y : ℕ → F p) → Separates (residues p H) n W m (λ i. res p H (t i)) y
+        → Functional p n N m t (λ i. y i .0)
     functional-down m t y s = record {
       kills = λ k l. dot-iff n (λ i. y i .0) (N k) 0 .1 (dot-val n y (W k) ∙ s .kills k l) ∙ zero-mod p;
       one = dot-iff n (λ i. y i .0) t 1 .1 (dot-val n y (λ i. res p H (t i)) ∙ s .one) ∙ mod-eq-of-lt (H .two);

@@ -56,7 +56,8 @@ module _ {A : Type 0} (K : Field A) (n : ℕ) (w y : ℕ → ℕ → A) where
   pub down-start : (m : ℕ) (t c : ℕ → A) → Down m t t c m
   down-start m t c = record {
     gone = λ j a b. absurd (omega arith);
-    sums = λ i l. ap (λ z. t i ⊕ z) (sum-zero R m (λ j. cond (leb m j) (c j ⊗ w j i) 𝟘) (λ j lj. ap (λ b. cond b (c j ⊗ w j i) 𝟘) (lt-leb m j lj))) ∙ zero-r R (t i);
+    sums = λ i l. ap (λ z. t i ⊕ z)
+        (sum-zero R m (λ j. cond (leb m j) (c j ⊗ w j i) 𝟘) (λ j lj. ap (λ b. cond b (c j ⊗ w j i) 𝟘) (lt-leb m j lj))) ∙ zero-r R (t i);
     only = λ j a b. absurd (omega arith);
   }
 
@@ -77,7 +78,8 @@ module _ {A : Type 0} (K : Field A) (n : ℕ) (w y : ℕ → ℕ → A) where
           (λ (e : k ≡ j). tests j true true false (le-leb k j (omega arith)) (eq-eqb j k (sym e)) (lt-leb (suc k) j (omega arith))
           (ring R (v 0) (c1 :* v 0 :+ c0) refl (λ i. f j)))
           (λ c. ⊎-elim
-          (λ (b : k < j). tests j true false true (le-leb k j (omega arith)) (ne-eqb j k (λ q. omega arith)) (le-leb (suc k) j (omega arith))
+          (λ (b : k < j). tests j true false true (le-leb k j (omega arith)) (ne-eqb j k (λ q. omega arith))
+          (le-leb (suc k) j (omega arith))
           (h j b lj ∙ ring R (v 0) (c0 :* v 1 :+ v 0) refl (λ i. getD (g j ∷ f j ∷ []) i 𝟘)))
           (λ (b : j < k). tests j false false false (lt-leb k j b) (ne-eqb j k (λ q. omega arith)) (lt-leb (suc k) j (omega arith))
           (ring R c0 (c0 :* v 0 :+ c0) refl (λ i. f j)))
@@ -90,12 +92,14 @@ module _ {A : Type 0} (K : Field A) (n : ℕ) (w y : ℕ → ℕ → A) where
   down-turn m k t₀ t u c d a D lk h e hu hd dk = record { gone = gone′; sums = sums′; only = only′ }
     where
       at : (j : ℕ) → dot R n (y j) u ≡ dot R n (y j) t ⊕ neg (a ⊗ dot R n (y j) (w k))
-      at j = sum-cong R n (λ i. y j i ⊗ u i) (λ i. y j i ⊗ (t i ⊕ neg (a ⊗ w k i))) (λ i l. ap (λ z. y j i ⊗ z) (hu i l)) ∙ dot-sub-r R n (y j) t (w k) a
+      at j = sum-cong R n (λ i. y j i ⊗ u i) (λ i. y j i ⊗ (t i ⊕ neg (a ⊗ w k i))) (λ i l. ap (λ z. y j i ⊗ z) (hu i l))
+          ∙ dot-sub-r R n (y j) t (w k) a
 
       gone′ : (j : ℕ) → k ≤ j → j < m → dot R n (y j) u ≡ 𝟘
       gone′ j lo hi = ⊎-elim
           (λ (q : k ≡ j). rw (← q) (at k ∙ ap (λ z. dot R n (y k) t ⊕ neg (z ⊗ dot R n (y k) (w k))) e ∙ own k t (D k lk)))
-          (λ (q : k < j). at j ∙ ap₂ (λ p q. p ⊕ neg (a ⊗ q)) (h .gone j q hi) (earlier j k (D j hi) q) ∙ ring R (c0 :- v 0 :* c0) c0 refl (λ i. a))
+          (λ (q : k < j). at j ∙ ap₂ (λ p q. p ⊕ neg (a ⊗ q)) (h .gone j q hi) (earlier j k (D j hi) q)
+          ∙ ring R (c0 :- v 0 :* c0) c0 refl (λ i. a))
           (eq-or-lt-of-le lo)
 
       sums′ : (i : ℕ) → i < n → u i ⊕ sum R m (λ j. cond (leb k j) (d j ⊗ w j i) 𝟘) ≡ t₀ i
@@ -119,10 +123,13 @@ module _ {A : Type 0} (K : Field A) (n : ℕ) (w y : ℕ → ℕ → A) where
   -- all taken off
   pub down-sums : (m : ℕ) (t₀ t c : ℕ → A) → Down m t₀ t c zero → (i : ℕ) → i < n → t i ⊕ sum R m (λ j. c j ⊗ w j i) ≡ t₀ i
   down-sums m t₀ t c h i l = ap (λ z. t i ⊕ z)
-      (sum-cong R m (λ j. c j ⊗ w j i) (λ j. cond (leb 0 j) (c j ⊗ w j i) 𝟘) (λ j lj. sym (ap (λ b. cond b (c j ⊗ w j i) 𝟘) (le-leb 0 j (omega arith))))) ∙ h .sums i l
+      (sum-cong R m (λ j. c j ⊗ w j i) (λ j. cond (leb 0 j) (c j ⊗ w j i) 𝟘)
+      (λ j lj. sym (ap (λ b. cond b (c j ⊗ w j i) 𝟘) (le-leb 0 j (omega arith))))) ∙ h .sums i l
 
-  pub found : (m : ℕ) (t₀ t c : ℕ → A) → Down m t₀ t c zero → ((i : ℕ) → i < n → t i ≡ 𝟘) → (i : ℕ) → i < n → sum R m (λ j. c j ⊗ w j i) ≡ t₀ i
-  found m t₀ t c h z i l = sym (zero-l (sum R m (λ j. c j ⊗ w j i))) ∙ ap (λ x. x ⊕ sum R m (λ j. c j ⊗ w j i)) (sym (z i l)) ∙ down-sums m t₀ t c h i l
+  pub found : (m : ℕ) (t₀ t c : ℕ → A) → Down m t₀ t c zero → ((i : ℕ) → i < n → t i ≡ 𝟘) → (i : ℕ) → i < n
+      → sum R m (λ j. c j ⊗ w j i) ≡ t₀ i
+  found m t₀ t c h z i l = sym (zero-l (sum R m (λ j. c j ⊗ w j i))) ∙ ap (λ x. x ⊕ sum R m (λ j. c j ⊗ w j i)) (sym (z i l))
+      ∙ down-sums m t₀ t c h i l
 
   -- up: u is 0 at the first k vectors and 1 at t
   pub record Up (t u : ℕ → A) (k : ℕ) : Type 0 where
@@ -139,10 +146,12 @@ module _ {A : Type 0} (K : Field A) (n : ℕ) (w y : ℕ → ℕ → A) where
   }
     where
       at : (s : ℕ → A) → dot R n x s ≡ dot R n u s ⊕ neg (a ⊗ dot R n (y k) s)
-      at s = sum-cong R n (λ i. x i ⊗ s i) (λ i. (u i ⊕ neg (a ⊗ y k i)) ⊗ s i) (λ i l. ap (λ z. z ⊗ s i) (hx i l)) ∙ dot-sub R n u (y k) s a
+      at s = sum-cong R n (λ i. x i ⊗ s i) (λ i. (u i ⊕ neg (a ⊗ y k i)) ⊗ s i) (λ i l. ap (λ z. z ⊗ s i) (hx i l))
+          ∙ dot-sub R n u (y k) s a
 
       new : Dual k (y k) → dot R n u (w k) ⊕ neg (a ⊗ dot R n (y k) (w k)) ≡ 𝟘
-      new (inl d) = ap₂ (λ p q. p ⊕ neg (a ⊗ q)) (at-comb K n w k (w k) u (d .0) ∙ zeros K n w k (d .0 .0) u (h .kills)) (null (y k) (w k) (d .1))
+      new (inl d) = ap₂ (λ p q. p ⊕ neg (a ⊗ q)) (at-comb K n w k (w k) u (d .0) ∙ zeros K n w k (d .0 .0) u (h .kills))
+          (null (y k) (w k) (d .1))
           ∙ ring R (c0 :- v 0 :* c0) c0 refl (λ i. a)
       new (inr d) = ap₂ (λ p q. p ⊕ neg (a ⊗ q)) (dot-comm R n u (w k) ∙ sym e) (d .1) ∙ ring R (v 0 :- v 0 :* c1) c0 refl (λ i. a)
 
@@ -167,7 +176,8 @@ module _ {A : Type 0} (K : Field A) (n : ℕ) (w y : ℕ → ℕ → A) where
     where
       go : (i : ℕ) → i < n → (q : Bool) → eqb i c ≡ q → (q ≡ true → u i ≡ b) → (q ≡ false → u i ≡ 𝟘) → u i ⊗ t i ≡ unit R c i ⊗ (b ⊗ t i)
       go i l true q f g = ap (λ z. z ⊗ t i) (f refl) ∙ sym (one-l (b ⊗ t i)) ∙ ap (λ x. cond x 𝟙 𝟘 ⊗ (b ⊗ t i)) (sym q)
-      go i l false q f g = ap (λ z. z ⊗ t i) (g refl) ∙ zero-mul R (t i) ∙ sym (zero-mul R (b ⊗ t i)) ∙ ap (λ x. cond x 𝟙 𝟘 ⊗ (b ⊗ t i)) (sym q)
+      go i l false q f g = ap (λ z. z ⊗ t i) (g refl) ∙ zero-mul R (t i) ∙ sym (zero-mul R (b ⊗ t i))
+          ∙ ap (λ x. cond x 𝟙 𝟘 ⊗ (b ⊗ t i)) (sym q)
 
       each : (i : ℕ) → i < n → u i ⊗ t i ≡ unit R c i ⊗ (b ⊗ t i)
       each i l = ⊎-elim
@@ -185,9 +195,11 @@ module _ {A : Type 0} (K : Field A) (n : ℕ) (w y : ℕ → ℕ → A) where
         (λ k. c .0 k ⊕ c .0 m ⊗ d .0 .0 k),
         λ i l.
             sum-cong R m (λ k. (c .0 k ⊕ c .0 m ⊗ d .0 .0 k) ⊗ w k i) (λ k. c .0 k ⊗ w k i ⊕ c .0 m ⊗ (d .0 .0 k ⊗ w k i))
-            (λ k lk. ring R ((v 0 :+ v 1 :* v 2) :* v 3) (v 0 :* v 3 :+ v 1 :* (v 2 :* v 3)) refl (λ j. getD (c .0 k ∷ c .0 m ∷ d .0 .0 k ∷ w k i ∷ []) j 𝟘))
+            (λ k lk. ring R ((v 0 :+ v 1 :* v 2) :* v 3) (v 0 :* v 3 :+ v 1 :* (v 2 :* v 3)) refl
+            (λ j. getD (c .0 k ∷ c .0 m ∷ d .0 .0 k ∷ w k i ∷ []) j 𝟘))
             ∙ sum-add R m (λ k. c .0 k ⊗ w k i) (λ k. c .0 m ⊗ (d .0 .0 k ⊗ w k i))
-            ∙ ap (λ z. sum R m (λ k. c .0 k ⊗ w k i) ⊕ z) (sum-mul R m (c .0 m) (λ k. d .0 .0 k ⊗ w k i) ∙ ap (λ z. c .0 m ⊗ z) (d .0 .1 i l))
+            ∙ ap (λ z. sum R m (λ k. c .0 k ⊗ w k i) ⊕ z)
+            (sum-mul R m (c .0 m) (λ k. d .0 .0 k ⊗ w k i) ∙ ap (λ z. c .0 m ⊗ z) (d .0 .1 i l))
             ∙ c .1 i l,
       )
       fewer (inr d) = (

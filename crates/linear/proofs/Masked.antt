@@ -33,7 +33,8 @@ module _ (p e : ℕ) (E : ℕ → ℕ → ℕ) (chosen : ℕ → Bool) where
   row-out k h i = ap (λ b. cond b (E k i) 0) h
 
   -- Weights that are 0 outside marks within the chosen rows see no difference.
-  same-total : (b : ℕ → Bool) (m : ℕ) (c : ℕ → ℕ) → ((k : ℕ) → k < m → b k ≡ true → chosen k ≡ true) → ((k : ℕ) → k < m → b k ≡ false → c k ≡ 0)
+  same-total : (b : ℕ → Bool) (m : ℕ) (c : ℕ → ℕ) → ((k : ℕ) → k < m → b k ≡ true → chosen k ≡ true)
+      → ((k : ℕ) → k < m → b k ≡ false → c k ≡ 0)
       → (i : ℕ) → total m (λ k. c k * E k i) ≡ total m (λ k. c k * rows k i)
   same-total b m c inside only i = total-cong m (λ k. c k * E k i) (λ k. c k * rows k i) (λ k l. go k l (b k) refl)
     where
@@ -48,7 +49,8 @@ module _ (p e : ℕ) (E : ℕ → ℕ → ℕ) (chosen : ℕ → Bool) where
     pub comb-unmask : (t : ℕ → ℕ) → CombinationOf p e rows b m t → CombinationOf p e E b m t
     comb-unmask t c = (c .0, c .1, λ i l. ap (λ (x : ℕ). x % p) (same-total b m (c .0) inside (c .1) i) ∙ c .2 i l)
 
-  comb-to : (N : ℕ → ℕ → ℕ) (b : ℕ → Bool) (m : ℕ) (t u : ℕ → ℕ) → ((i : ℕ) → t i ≡ u i) → CombinationOf p e N b m t → CombinationOf p e N b m u
+  comb-to : (N : ℕ → ℕ → ℕ) (b : ℕ → Bool) (m : ℕ) (t u : ℕ → ℕ) → ((i : ℕ) → t i ≡ u i) → CombinationOf p e N b m t
+      → CombinationOf p e N b m u
   comb-to N b m t u h c = (c .0, c .1, λ i l. c .2 i l ∙ ap (λ (x : ℕ). x % p) (h i))
 
   -- A row that is not chosen is a combination of none.
@@ -118,7 +120,8 @@ module _ (p e : ℕ) (E : ℕ → ℕ → ℕ) (chosen : ℕ → Bool) where
 
   -- A row times z, written either way round, in the table and in E.
   times-mask : (k : ℕ) (z : ℕ → ℕ) → chosen k ≡ true → total e (λ j. z j * rows k j) ≡ total e (λ j. E k j * z j)
-  times-mask k z h = total-cong e (λ j. z j * rows k j) (λ j. E k j * z j) (λ j l. ap (λ (x : ℕ). z j * x) (row-chosen k h j) ∙ mul-comm (z j) (E k j))
+  times-mask k z h = total-cong e (λ j. z j * rows k j) (λ j. E k j * z j)
+      (λ j l. ap (λ (x : ℕ). z j * x) (row-chosen k h j) ∙ mul-comm (z j) (E k j))
 
   pub kills-mask : (z : ℕ → ℕ) (k : ℕ) → (chosen k ≡ true → total e (λ j. E k j * z j) % p ≡ 0) → total e (λ j. z j * rows k j) % p ≡ 0
   kills-mask z k h = go (chosen k) refl

@@ -25,7 +25,8 @@ module _ (p : ℕ) (H : Prime p) (n : ℕ) (N : ℕ → ℕ → ℕ) where
   pub functional-none : (m : ℕ) (t y : ℕ → ℕ) → Functional p n N m t y → NoCombination p n N m t
   functional-none m t y f = record {
     none = λ c.
-        Field.never-both (residues p H) n (W p H n N) m (λ i. res p H (t i)) (λ i. res p H (y i)) (comb-up p H n N m t c) (functional-up p H n N m t y f);
+        Field.never-both (residues p H) n (W p H n N) m (λ i. res p H (t i)) (λ i. res p H (y i)) (comb-up p H n N m t c)
+        (functional-up p H n N m t y f);
   }
 
   -- The verdict alone, for any target.
@@ -46,11 +47,13 @@ module _ (p : ℕ) (H : Prime p) (n : ℕ) (N : ℕ → ℕ → ℕ) where
       ∙ sym (rule-kept (residues p H) n (W p H n N) c m (rule-up p H n N c m g) k l)
 
   pub count-unique : (m s u : ℕ) → KeptCount p n N m s → KeptCount p n N m u → s ≡ u
-  count-unique m s u a b = sym (a .number) ∙ count-cong m (a .kept) (b .kept) (kept-unique (a .kept) (b .kept) m (a .rule) (b .rule)) ∙ b .number
+  count-unique m s u a b = sym (a .number) ∙ count-cong m (a .kept) (b .kept) (kept-unique (a .kept) (b .kept) m (a .rule) (b .rule))
+      ∙ b .number
 
   -- "a zero row is never kept"
   pub zero-not-kept : (b : ℕ → Bool) (m : ℕ) → KeptRule p n N b m → (k : ℕ) → k < m → ((i : ℕ) → i < n → N k i % p ≡ 0) → b k ≡ false
-  zero-not-kept b m h k l z = zero-dropped (residues p H) n (W p H n N) b m (rule-up p H n N b m h) k l (λ i li. zero-res p H (N k i) (z i li))
+  zero-not-kept b m h k l z = zero-dropped (residues p H) n (W p H n N) b m (rule-up p H n N b m h) k l
+      (λ i li. zero-res p H (N k i) (z i li))
 
   -- The rule's marks over numbers, for whoever has counted the kept vectors of the field.
   pub kept-count : (m s : ℕ) → count m (kept (residues p H) n (W p H n N)) ≡ s → KeptCount p n N m s
@@ -80,7 +83,8 @@ none-same p n m N M same t u ht h = record {
   );
 }
 
-pub rule-same : (p n m : ℕ) (N M : ℕ → ℕ → ℕ) → ((k i : ℕ) → k < m → i < n → N k i ≡ M k i) → (b : ℕ → Bool) → KeptRule p n N b m → KeptRule p n M b m
+pub rule-same : (p n m : ℕ) (N M : ℕ → ℕ → ℕ) → ((k i : ℕ) → k < m → i < n → N k i ≡ M k i) → (b : ℕ → Bool) → KeptRule p n N b m
+    → KeptRule p n M b m
 rule-same p n m N M same b h k l = (
   (λ q c. h k l .0 q (comb-of-same p n m M N (λ k i x y. sym (same k i x y)) b k l c)),
   λ f. h k l .1 (λ c. f (comb-of-same p n m N M same b k l c)),

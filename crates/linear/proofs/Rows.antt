@@ -43,7 +43,8 @@ module _ (p : ℕ) (H : Prime p) (d f : ℕ) (E : ℕ → ℕ → ℕ) (chosen :
   -- What begins with 1 and kills a row gives that row's first number, negated, by the other columns; and back.
   kill-split : (z : ℕ → ℕ) (k : ℕ) → z 0 % p ≡ 1
       → total (suc f) (λ j. z j * rows k j) % p ≡ (rows k 0 + total f (λ j. z (suc j) * columns j k)) % p
-  kill-split z k e = ap (λ (x : ℕ). x % p) (total-first f (λ j. z j * rows k j)) ∙ times-one p (z 0) (rows k 0) (total f (λ j. z (suc j) * columns j k)) e
+  kill-split z k e = ap (λ (x : ℕ). x % p) (total-first f (λ j. z j * rows k j))
+      ∙ times-one p (z 0) (rows k 0) (total f (λ j. z (suc j) * columns j k)) e
 
   pub columns-of : (z : ℕ → ℕ) → z 0 % p ≡ 1 → ((k : ℕ) → k < d → total (suc f) (λ j. z j * rows k j) % p ≡ 0)
       → AddUpTo p d columns f (λ j. z (suc j)) (minusFirst p E chosen)
@@ -59,7 +60,8 @@ module _ (p : ℕ) (H : Prime p) (d f : ℕ) (E : ℕ → ℕ → ℕ) (chosen :
   others : suc f - 1 ≡ f
   others = omega arith
 
-  pub witness-coefficients : (z : ℕ → ℕ) → Witness p d (suc f) E chosen z → Coefficients p d columns f (minusFirst p E chosen) (λ j. z (suc j))
+  pub witness-coefficients : (z : ℕ → ℕ) → Witness p d (suc f) E chosen z
+      → Coefficients p d columns f (minusFirst p E chosen) (λ j. z (suc j))
   witness-coefficients z c = record {
     kept = c .kept;
     rule = subst (λ (m : ℕ). KeptRule p d columns (c .kept) m) others (c .rule);
@@ -68,7 +70,8 @@ module _ (p : ℕ) (H : Prime p) (d f : ℕ) (E : ℕ → ℕ → ℕ) (chosen :
     gives = columns-of z (one-mod (z 0) (c .first)) (λ k l. kills-mask p (suc f) E chosen z k (c .kills k l));
   }
 
-  pub coefficients-witness : (z : ℕ → ℕ) → z 0 ≡ 1 → Coefficients p d columns f (minusFirst p E chosen) (λ j. z (suc j)) → Witness p d (suc f) E chosen z
+  pub coefficients-witness : (z : ℕ → ℕ) → z 0 ≡ 1 → Coefficients p d columns f (minusFirst p E chosen) (λ j. z (suc j))
+      → Witness p d (suc f) E chosen z
   coefficients-witness z e c = record {
     kept = c .kept;
     rule = subst⁻¹ (λ (m : ℕ). KeptRule p d columns (c .kept) m) others (c .rule);
@@ -107,8 +110,10 @@ module _ (p : ℕ) (H : Prime p) (d f : ℕ) (E : ℕ → ℕ → ℕ) (chosen :
   pub open-not-closed : (r z : ℕ → ℕ) → OpeningVector p d (suc f) E chosen r → Witness p d (suc f) E chosen z → ⊥
   open-not-closed r z o c = witness-closed z c (opening-open r o)
 
-  pub opening-unique : (r s : ℕ → ℕ) → OpeningVector p d (suc f) E chosen r → OpeningVector p d (suc f) E chosen s → (k : ℕ) → k < d → r k ≡ s k
-  opening-unique r s o q = coefficients-unique p H (suc f) rows d target r s (opening-mask p (suc f) E chosen d r o) (opening-mask p (suc f) E chosen d s q)
+  pub opening-unique : (r s : ℕ → ℕ) → OpeningVector p d (suc f) E chosen r → OpeningVector p d (suc f) E chosen s → (k : ℕ) → k < d
+      → r k ≡ s k
+  opening-unique r s o q = coefficients-unique p H (suc f) rows d target r s (opening-mask p (suc f) E chosen d r o)
+      (opening-mask p (suc f) E chosen d s q)
 
   pub rank-unique : (s u : ℕ) → Rank p d (suc f) E chosen s → Rank p d (suc f) E chosen u → s ≡ u
   rank-unique s u a b = count-unique p H (suc f) rows d s u (rank-mask p (suc f) E chosen d s a) (rank-mask p (suc f) E chosen d u b)
@@ -144,7 +149,8 @@ module _ (p : ℕ) (H : Prime p) (d f : ℕ) (E : ℕ → ℕ → ℕ) (chosen :
           (λ i. 0),
           (λ i li q. refl),
           λ k lk.
-              ap (λ (x : ℕ). x % p) (total-zero j (λ i. 0 * columns i k) (λ i li. omega arith) ∙ sym (ap (λ b. cond b (E k (suc j)) 0) (none k lk))),
+              ap (λ (x : ℕ). x % p)
+              (total-zero j (λ i. 0 * columns i k) (λ i li. omega arith) ∙ sym (ap (λ b. cond b (E k (suc j)) 0) (none k lk))),
         )),
       );
       below = small;
@@ -177,7 +183,8 @@ module _ (p d e : ℕ) (E : ℕ → ℕ → ℕ) (b c : ℕ → Bool) (same : (k
   pub witness-same : (z : ℕ → ℕ) → Witness p d e E b z → Witness p d e E c z
   witness-same z w = record {
     kept = w .kept;
-    rule = rule-same p d (e - 1) (columnsOf E b) (columnsOf E c) (λ j k lj lk. ap (λ x. cond x (E k (suc j)) 0) (same k lk)) (w .kept) (w .rule);
+    rule = rule-same p d (e - 1) (columnsOf E b) (columnsOf E c) (λ j k lj lk. ap (λ x. cond x (E k (suc j)) 0) (same k lk)) (w .kept)
+        (w .rule);
     below = w .below;
     first = w .first;
     kills = λ k l q. w .kills k l (same k l ∙ q);

@@ -69,7 +69,8 @@ module _ {A : Type 0} (K : Field A) (n : ℕ) (w : ℕ → ℕ → A) where
   -- an answer is one for every vector that is the same below n
   abbrev pub resp : (m : ℕ) (t u : ℕ → A) → ((i : ℕ) → i < n → t i ≡ u i) → Answer m t → Answer m u
   resp m t u e (inl (c, s)) = inl ((c .0, λ i l. c .1 i l ∙ e i l), s)
-  resp m t u e (inr y) = inr (y .0, y .1, sum-cong R n (λ i. y .0 i ⊗ u i) (λ i. y .0 i ⊗ t i) (λ i l. ap (λ z. y .0 i ⊗ z) (sym (e i l))) ∙ y .2)
+  resp m t u e (inr y) = inr
+      (y .0, y .1, sum-cong R n (λ i. y .0 i ⊗ u i) (λ i. y .0 i ⊗ t i) (λ i l. ap (λ z. y .0 i ⊗ z) (sym (e i l))) ∙ y .2)
 
   abbrev pub memo-sep : (m : ℕ) (t : ℕ → A) → Sep m t → Sep m t
   memo-sep m t y = (
@@ -84,7 +85,8 @@ module _ {A : Type 0} (K : Field A) (n : ℕ) (w : ℕ → ℕ → A) where
       (λ u. inr (
         (λ i. unit R (u .0) i ⊗ u .2),
         (λ k l. absurd (not-suc-le-zero l)),
-        sum-cong R n (λ i. unit R (u .0) i ⊗ u .2 ⊗ t i) (λ i. unit R (u .0) i ⊗ (u .2 ⊗ t i)) (λ i l. massoc (unit R (u .0) i) (u .2) (t i))
+        sum-cong R n (λ i. unit R (u .0) i ⊗ u .2 ⊗ t i) (λ i. unit R (u .0) i ⊗ (u .2 ⊗ t i))
+            (λ i l. massoc (unit R (u .0) i) (u .2) (t i))
             ∙ sum-unit R n (u .0) (λ i. u .2 ⊗ t i) (u .1) ∙ u .3,
       ))
       (place n t)
@@ -95,7 +97,8 @@ module _ {A : Type 0} (K : Field A) (n : ℕ) (w : ℕ → ℕ → A) where
     (put R m (c .0) 𝟘, λ i l. sum-put R m (c .0) 𝟘 (λ k. w k i) ∙ ap₂ _⊕_ (c .1 i l) (zero-mul R (w m i)) ∙ zero-r R (t i)),
     below-suc (λ k. Comb K n w k (w k) → put R m (c .0) 𝟘 k ≡ 𝟘) m (λ k l e. put-lt R m (c .0) 𝟘 k l ∙ s k l e) (λ e. put-at R m (c .0) 𝟘),
   )
-  skip m t d (inr y) = inr (y .0, below-suc (λ k. dot R n (y .0) (w k) ≡ 𝟘) m (y .1) (at-comb m (w m) (y .0) d ∙ zeros m (d .0) (y .0) (y .1)), y .2)
+  skip m t d (inr y) = inr
+      (y .0, below-suc (λ k. dot R n (y .0) (w k) ≡ 𝟘) m (y .1) (at-comb m (w m) (y .0) d ∙ zeros m (d .0) (y .0) (y .1)), y .2)
 
   -- the last vector is kept: y is 0 at those before it and 1 at it
   abbrev pub take : (m : ℕ) (t : ℕ → A) (y : Sep m (w m)) → Answer m (λ i. t i ⊕ neg (dot R n (y .0) t ⊗ w m i)) → Answer (suc m) t
@@ -105,7 +108,8 @@ module _ {A : Type 0} (K : Field A) (n : ℕ) (w : ℕ → ℕ → A) where
       λ i l. sum-put R m (c .0) a (λ k. w k i) ∙ ap (λ z. z ⊕ a ⊗ w m i) (c .1 i l)
           ∙ ring R (v 0 :- v 1 :* v 2 :+ v 1 :* v 2) (v 0) refl (λ j. getD (t i ∷ a ∷ w m i ∷ []) j 𝟘),
     ),
-    below-suc (λ k. Comb K n w k (w k) → put R m (c .0) a k ≡ 𝟘) m (λ k l e. put-lt R m (c .0) a k l ∙ s k l e) (λ e. absurd (never m (w m) e y)),
+    below-suc (λ k. Comb K n w k (w k) → put R m (c .0) a k ≡ 𝟘) m (λ k l e. put-lt R m (c .0) a k l ∙ s k l e)
+        (λ e. absurd (never m (w m) e y)),
   )
     where
       a : A
@@ -119,7 +123,8 @@ module _ {A : Type 0} (K : Field A) (n : ℕ) (w : ℕ → ℕ → A) where
       x i = u .0 i ⊕ neg (b ⊗ y .0 i)
 
       old : (k : ℕ) → k < m → dot R n x (w k) ≡ 𝟘
-      old k l = dot-sub R n (u .0) (y .0) (w k) b ∙ ap₂ (λ z q. z ⊕ neg (b ⊗ q)) (u .1 k l) (y .1 k l) ∙ ring R (c0 :- v 0 :* c0) c0 refl (λ i. b)
+      old k l = dot-sub R n (u .0) (y .0) (w k) b ∙ ap₂ (λ z q. z ⊕ neg (b ⊗ q)) (u .1 k l) (y .1 k l)
+          ∙ ring R (c0 :- v 0 :* c0) c0 refl (λ i. b)
 
       new : dot R n x (w m) ≡ 𝟘
       new = dot-sub R n (u .0) (y .0) (w m) b ∙ ap (λ q. b ⊕ neg (b ⊗ q)) (y .2) ∙ ring R (v 0 :- v 0 :* c1) c0 refl (λ i. b)
@@ -154,7 +159,8 @@ module _ {A : Type 0} (K : Field A) (n : ℕ) (w : ℕ → ℕ → A) where
 
   -- a functional that separates the last vector reads its coefficient
   last : (m : ℕ) (t : ℕ → A) (y : Sep m (w m)) (c : Comb K n w (suc m) t) → dot R n (y .0) t ≡ c .0 m
-  last m t y c = at-comb (suc m) t (y .0) c ∙ ap₂ (λ p q. p ⊕ c .0 m ⊗ q) (zeros m (c .0) (y .0) (y .1)) (y .2) ∙ ring R (c0 :+ v 0 :* c1) (v 0) refl (λ i. c .0 m)
+  last m t y c = at-comb (suc m) t (y .0) c ∙ ap₂ (λ p q. p ⊕ c .0 m ⊗ q) (zeros m (c .0) (y .0) (y .1)) (y .2)
+      ∙ ring R (c0 :+ v 0 :* c1) (v 0) refl (λ i. c .0 m)
 
   -- the rest, where the last coefficient is a
   rest : (m : ℕ) (t : ℕ → A) (a : A) (c : Comb K n w (suc m) t) → c .0 m ≡ a → Comb K n w m (λ i. t i ⊕ neg (a ⊗ w m i))
@@ -168,16 +174,20 @@ module _ {A : Type 0} (K : Field A) (n : ℕ) (w : ℕ → ℕ → A) where
   unfolding rest
   unique zero t c d p q = λ k l. absurd (not-suc-le-zero l)
   unique (suc m) t c d p q = below-suc (λ k. c .0 k ≡ d .0 k) m
-      (unique m (λ i. t i ⊕ neg (d .0 m ⊗ w m i)) (rest m t (d .0 m) c same) (rest m t (d .0 m) d refl) (λ k l. p k (omega arith)) (λ k l. q k (omega arith)))
+      (unique m (λ i. t i ⊕ neg (d .0 m ⊗ w m i)) (rest m t (d .0 m) c same) (rest m t (d .0 m) d refl) (λ k l. p k (omega arith))
+      (λ k l. q k (omega arith)))
       same
     where
       same : c .0 m ≡ d .0 m
-      same = ⊎-elim (λ e. p m (omega arith) (e .0) ∙ sym (q m (omega arith) (e .0))) (λ y. sym (last m t y c) ∙ last m t y d) (solve m (w m))
+      same = ⊎-elim (λ e. p m (omega arith) (e .0) ∙ sym (q m (omega arith) (e .0))) (λ y. sym (last m t y c) ∙ last m t y d)
+          (solve m (w m))
 
   -- what a combination of rows does to a dealing: the weighted shares give the target's product
   pub recover : (m : ℕ) (t b : ℕ → A) (c : Comb K n w m t) → sum R m (λ k. c .0 k ⊗ dot R n b (w k)) ≡ dot R n b t
   recover m t b c = sym (at-comb m t b c)
 
   -- a vector that each row kills may be added without a change
-  pub shift : (m : ℕ) (b z : ℕ → A) (a : A) → ((k : ℕ) → k < m → dot R n z (w k) ≡ 𝟘) → (k : ℕ) → k < m → dot R n (λ i. b i ⊕ neg (a ⊗ z i)) (w k) ≡ dot R n b (w k)
-  shift m b z a h k l = dot-sub R n b z (w k) a ∙ ap (λ q. dot R n b (w k) ⊕ neg (a ⊗ q)) (h k l) ∙ ring R (v 0 :- v 1 :* c0) (v 0) refl (λ j. getD (dot R n b (w k) ∷ a ∷ []) j 𝟘)
+  pub shift : (m : ℕ) (b z : ℕ → A) (a : A) → ((k : ℕ) → k < m → dot R n z (w k) ≡ 𝟘) → (k : ℕ) → k < m
+      → dot R n (λ i. b i ⊕ neg (a ⊗ z i)) (w k) ≡ dot R n b (w k)
+  shift m b z a h k l = dot-sub R n b z (w k) a ∙ ap (λ q. dot R n b (w k) ⊕ neg (a ⊗ q)) (h k l)
+      ∙ ring R (v 0 :- v 1 :* c0) (v 0) refl (λ j. getD (dot R n b (w k) ∷ a ∷ []) j 𝟘)

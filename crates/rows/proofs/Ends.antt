@@ -23,11 +23,13 @@ going-length p f d E chosen k s t r₀ true r g = g .if-open refl .1
 going-length p f d E chosen k s t r₀ false r g = ap length (g .if-closed refl .0)
 
 -- The rows of the lines come before row k.
-pub sources : (p f : ℕ) (E : ℕ → ℕ → ℕ) (chosen : ℕ → Bool) (k s : ℕ) (t : List (List ℕ)) → Prime p → State p f E chosen k s t → (j : ℕ) → j < s → at t j 26 < k
+pub sources : (p f : ℕ) (E : ℕ → ℕ → ℕ) (chosen : ℕ → Bool) (k s : ℕ) (t : List (List ℕ)) → Prime p → State p f E chosen k s t → (j : ℕ)
+    → j < s → at t j 26 < k
 sources p f E chosen k s t H st j l = st .basis H .upto j l
 
 -- A line with a pivot has an inverse below p.
-pub next-inverse : (p e k s : ℕ) (w : Bool) (m : List ℕ) (t : List (List ℕ)) (v : List ℕ) → Next p e k s w m t v → getD v 25 0 + 1 ≡ e → getD v 24 0 < p
+pub next-inverse : (p e k s : ℕ) (w : Bool) (m : List ℕ) (t : List (List ℕ)) (v : List ℕ) → Next p e k s w m t v → getD v 25 0 + 1 ≡ e
+    → getD v 24 0 < p
 next-inverse p e k s w m t v nx z = nx .made (made-chosen p e k s w m t v nx (omega arith)) .2 .inv
 
 module _ (p e f d chosen : ℕ) (m : List ℕ) (q : e ≡ suc f) (H : Prime p) (k s : ℕ) (t : List (List ℕ)) (r₀ z r : List ℕ) (o : Bool)
@@ -38,18 +40,21 @@ module _ (p e f d chosen : ℕ) (m : List ℕ) (q : e ≡ suc f) (H : Prime p) (
 
   pub answered-open : o ≡ true → Answered p d e chosen m r₀ z (record { opens = true; rank = s }) r z
   answered-open h = record {
-    if-open = λ w. (subst⁻¹ (λ (e′ : ℕ). OpeningVector p d e′ (entry e m) (bit chosen) (place r)) q (g .if-open h .0), g .if-open h .1 ∙ n₀, refl);
+    if-open = λ w.
+        (subst⁻¹ (λ (e′ : ℕ). OpeningVector p d e′ (entry e m) (bit chosen) (place r)) q (g .if-open h .0), g .if-open h .1 ∙ n₀, refl);
     if-closed = λ w. absurd (true≢false w);
     rank = rank;
   }
 
   pub answered-closed : o ≡ false → (y z′ : List ℕ) → ((i : ℕ) → getD y i 0 < p) → getD y f 0 ≡ 1 → Killed p s t f 0 y → length z′ ≡ e
-      → getD z′ 0 0 ≡ getD y f 0 → ((i : ℕ) → i < f → getD z′ (1 + i) 0 ≡ getD y i 0) → Answered p d e chosen m r₀ z (record { opens = false; rank = s }) r z′
+      → getD z′ 0 0 ≡ getD y f 0 → ((i : ℕ) → i < f → getD z′ (1 + i) 0 ≡ getD y i 0)
+      → Answered p d e chosen m r₀ z (record { opens = false; rank = s }) r z′
   answered-closed h y z′ small one kills n z0 zs = record {
     if-open = λ w. absurd (false≢true w);
     if-closed = λ w. (
       subst⁻¹ (λ (e′ : ℕ). Witness p d e′ (entry e m) (bit chosen) (place z′)) q
-          (witness-end p e f d m (bit chosen) q s t (subst (λ (k : ℕ). State p f (entry e m) (bit chosen) k s t) kd (g .state)) H y z′ small one kills z0 zs),
+          (witness-end p e f d m (bit chosen) q s t
+          (subst (λ (k : ℕ). State p f (entry e m) (bit chosen) k s t) kd (g .state)) H y z′ small one kills z0 zs),
       n,
       g .if-closed h .0,
     );

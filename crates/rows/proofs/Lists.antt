@@ -32,11 +32,13 @@ module _ (p e k : ℕ) (m v₀ v : List ℕ) (i : ℕ) (le : 1 ≤ e) (l12 : e �
 
   pub loaded-low : Low p m → Low p (set v (e - 1) (getD m (k * e) 0))
   loaded-low lo lp j = set-at v (e - 1) (getD m (k * e) 0) j (λ y. y < 65536) long (lo lp (k * e))
-      (λ ne. ⊎-elim (λ a. rw (filled-front (e - 1) row v₀ v i h j a) (lo lp (k * e + (1 + j)))) (λ a. rw (h .after j (omega arith) ∙ z j) (omega arith)) (lt-or-ge j i))
+      (λ ne. ⊎-elim (λ a. rw (filled-front (e - 1) row v₀ v i h j a) (lo lp (k * e + (1 + j))))
+      (λ a. rw (h .after j (omega arith) ∙ z j) (omega arith)) (lt-or-ge j i))
 
   pub loaded-row : (j : ℕ) → j < e → getD (set v (e - 1) (getD m (k * e) 0)) j 0 ≡ rowAt e m k j
   loaded-row j l = ⊎-elim
-      (λ (a : j < e - 1). getD-set-other v (e - 1) j (getD m (k * e) 0) 0 (λ r. omega arith) ∙ filled-front (e - 1) row v₀ v i h j (omega arith)
+      (λ (a : j < e - 1). getD-set-other v (e - 1) j (getD m (k * e) 0) 0 (λ r. omega arith)
+      ∙ filled-front (e - 1) row v₀ v i h j (omega arith)
       ∙ ap (λ b. cond b (row j) (getD m (k * e) 0)) (sym (lt-ltb j (e - 1) a)))
       (λ (a : e - 1 ≤ j). let q : j ≡ e - 1 = omega arith in
       ap (λ (n : ℕ). getD (set v (e - 1) (getD m (k * e) 0)) n 0) q ∙ getD-set-same v (e - 1) (getD m (k * e) 0) 0 long

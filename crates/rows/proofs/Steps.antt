@@ -35,7 +35,8 @@ module _ (p : ℕ) (H : Prime p) where
     reduced = record {
       facs = λ j l. let u = st .pivs j l in ap (res p H) (ln .facs j l) ∙ ap (neg p H)
           (res-col p H (w (at t j 25)) j (λ l. getD v (12 + l) 0) (λ l. at t l (at t j 25))
-          ∙ ap (λ z. _⊕_ p H z (sum (residueRing p H) j (λ l. _⊗_ p H (g l) (res p H (at t l (at t j 25)))))) (row (at t j 25) (omega arith)));
+          ∙ ap (λ z. _⊕_ p H z (sum (residueRing p H) j (λ l. _⊗_ p H (g l) (res p H (at t l (at t j 25))))))
+          (row (at t j 25) (omega arith)));
       left = λ i l. res-mod p H (w i + colSum v t s i) ∙ res-col p H (w i) s (λ l. getD v (12 + l) 0) (λ l. at t l i)
           ∙ ap (λ z. _⊕_ p H z (sum (residueRing p H) s (λ l. _⊗_ p H (g l) (res p H (at t l i))))) (row i (omega arith));
     }
@@ -52,15 +53,18 @@ module _ (p : ℕ) (H : Prime p) where
 
     -- The line that is to be kept has a place.
     pub space : getD v 25 0 < e → s < suc f
-    space l = room (residues p H) (suc f) (workOf p H f E chosen) k s (linesOf p H t) (st .basis H) g x (getD v 25 0) (res p H (getD v 24 0))
+    space l = room (residues p H) (suc f) (workOf p H f E chosen) k s (linesOf p H t) (st .basis H) g x (getD v 25 0)
+        (res p H (getD v 24 0))
         reduced (omega arith) (some-before l) (some-unit l)
 
-    pub basis-keep : getD v 25 0 < e → s < length t → Basis (residues p H) (suc f) (workOf p H f E chosen) (suc k) (suc s) (linesOf p H (set t s v))
+    pub basis-keep : getD v 25 0 < e → s < length t
+        → Basis (residues p H) (suc f) (workOf p H f E chosen) (suc k) (suc s) (linesOf p H (set t s v))
     basis-keep l fits = keep (residues p H) (suc f) (workOf p H f E chosen) k s (linesOf p H t) (st .basis H) (linesOf p H (set t s v)) g x
         (λ i. res p H (getD v i 0)) g (getD v 25 0) (res p H (getD v 24 0)) reduced (omega arith) (some-before l) (some-unit l)
         (λ j lj. ap (lineOf p H) (getD-set-other t s j v [] (λ r. omega arith)))
         (ap (lineOf p H) (getD-set-same t s v [] fits)
-        ∙ ap (λ (n : ℕ). record { vec = λ i. res p H (getD v i 0); fac = g; inv = res p H (getD v 24 0); piv = getD v 25 0; src = n }) (ln .src))
+        ∙ ap (λ (n : ℕ). record { vec = λ i. res p H (getD v i 0); fac = g; inv = res p H (getD v 24 0); piv = getD v 25 0; src = n })
+        (ln .src))
         (λ i li. ap (res p H) (ln .some l .2 i (omega arith)) ∙ res-times p H (getD v 24 0) (left p s t w v i)) (λ i li. refl)
 
 -- A chosen row of the entries in the working order, and one that is not chosen.
@@ -76,7 +80,8 @@ row-work p H e f k m chosen q h i =
     go true = ap₂ (λ b (n : ℕ). res p H (cond b (getD m n 0) 0)) (sym h) (omega arith)
     go false = ap₂ (λ b (n : ℕ). res p H (cond b (getD m n 0) 0)) (sym h) (omega arith)
 
-pub row-out : (p : ℕ) (H : Prime p) (f k : ℕ) (E : ℕ → ℕ → ℕ) (chosen : ℕ → Bool) → chosen k ≡ false → (i : ℕ) → workOf p H f E chosen k i ≡ res p H 0
+pub row-out : (p : ℕ) (H : Prime p) (f k : ℕ) (E : ℕ → ℕ → ℕ) (chosen : ℕ → Bool) → chosen k ≡ false → (i : ℕ)
+    → workOf p H f E chosen k i ≡ res p H 0
 row-out p H f k E chosen h i = go (ltb i f)
   where
     go : (b : Bool) → cond b (res p H (cond (chosen k) (E k (suc i)) 0)) (res p H (cond (chosen k) (E k zero) 0)) ≡ res p H 0

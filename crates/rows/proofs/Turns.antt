@@ -35,12 +35,14 @@ use Rattle.rows.proofs.Steps.{reduced, some-before, some-unit, basis-dr
 
 pub lows-set : (p : ℕ) (t : List (List ℕ)) (s : ℕ) (v : List ℕ) → s < length t → Low p v → Lows p t → Lows p (set t s v)
 lows-set p t s v l lv lt lp j i = ⊎-elim
-    (λ (q : j ≡ s). subst⁻¹ (λ (j : ℕ). at (set t s v) j i < 65536) q (subst⁻¹ (λ (w : List ℕ). getD w i 0 < 65536) (getD-set-same t s v [] l) (lv lp i)))
+    (λ (q : j ≡ s). subst⁻¹ (λ (j : ℕ). at (set t s v) j i < 65536) q
+    (subst⁻¹ (λ (w : List ℕ). getD w i 0 < 65536) (getD-set-same t s v [] l) (lv lp i)))
     (λ ne. subst⁻¹ (λ (w : List ℕ). getD w i 0 < 65536) (getD-set-other t s j v [] ne) (lt lp j i))
     (same? j s)
 
 -- What holds of the pivots of the first s lines and of the new line's holds of s + 1.
-pub pivots-set : (P : ℕ → Type 0) (t : List (List ℕ)) (s : ℕ) (v : List ℕ) → s < length t → ((j : ℕ) → j < s → P (at t j 25)) → P (getD v 25 0)
+pub pivots-set : (P : ℕ → Type 0) (t : List (List ℕ)) (s : ℕ) (v : List ℕ) → s < length t → ((j : ℕ) → j < s → P (at t j 25))
+    → P (getD v 25 0)
     → (j : ℕ) → j < s + 1 → P (at (set t s v) j 25)
 pivots-set P t s v l h new j lj = ⊎-elim
     (λ (a : j < s). subst⁻¹ (λ (w : List ℕ). P (getD w 25 0)) (getD-set-other t s j v [] (λ r. omega arith)) (h j a))
@@ -54,7 +56,8 @@ Stored e s v t s′ t′ = (getD v 25 0 < e → (s′ ≡ s + 1) × (t′ ≡ se
 
 -- What `settle` does: r is filled where the line's pivot is at the last place, and else all is as it was.
 abbrev pub Settled : ℕ → ℕ → ℕ → ℕ → List (List ℕ) → List ℕ → Bool → List ℕ → Bool → List ℕ → Type 0
-Settled p e k s t v o r o′ r′ = (getD v 25 0 + 1 ≡ e → (o′ ≡ true) × Opened p k s t v r r′) × ((getD v 25 0 + 1 ≡ e → ⊥) → (o′ ≡ o) × (r′ ≡ r))
+Settled p e k s t v o r o′ r′ = (getD v 25 0 + 1 ≡ e → (o′ ≡ true) × Opened p k s t v r r′) ×
+    ((getD v 25 0 + 1 ≡ e → ⊥) → (o′ ≡ o) × (r′ ≡ r))
 
 -- A line with a pivot is that of a wanted row.
 pub made-chosen : (p e k s : ℕ) (w : Bool) (m : List ℕ) (t : List (List ℕ)) (v : List ℕ) → Next p e k s w m t v → getD v 25 0 < e → w ≡ true
@@ -76,7 +79,8 @@ module _ (p e f d : ℕ) (m : List ℕ) (chosen : ℕ → Bool) (q : e ≡ suc f
   }
 
   module _ (k s : ℕ) (t : List (List ℕ)) (st : State p f (entry e m) chosen k s t) (v : List ℕ) where
-    rowed : (h : chosen k ≡ true) (rl : RowLine p e k s m t v) (H : Prime p) (i : ℕ) → i < e → res p H (getD (rl .0) i 0) ≡ workOf p H f (entry e m) chosen k i
+    rowed : (h : chosen k ≡ true) (rl : RowLine p e k s m t v) (H : Prime p) (i : ℕ) → i < e
+        → res p H (getD (rl .0) i 0) ≡ workOf p H f (entry e m) chosen k i
     rowed h rl H i l = ap (res p H) (rl .1 i l) ∙ row-work p H e f k m chosen q h i
 
     state-out : chosen k ≡ false → State p f (entry e m) chosen (k + 1) s t
@@ -110,13 +114,15 @@ module _ (p e f d : ℕ) (m : List ℕ) (chosen : ℕ → Bool) (q : e ≡ suc f
     roomy : Prime p → chosen k ≡ true → RowLine p e k s m t v → getD v 25 0 < e → s < suc f
     roomy H h rl l = space p H f e k s (entry e m) chosen t (λ i. getD (rl .0) i 0) v q st (rl .2) (rowed h rl H) l
 
-    state-keep : Prime p → chosen k ≡ true → RowLine p e k s m t v → Shaped p e v → e ≤ 12 → getD v 25 0 < e → State p f (entry e m) chosen (k + 1) (s + 1) (set t s v)
+    state-keep : Prime p → chosen k ≡ true → RowLine p e k s m t v → Shaped p e v → e ≤ 12 → getD v 25 0 < e
+        → State p f (entry e m) chosen (k + 1) (s + 1) (set t s v)
     state-keep H₀ h rl sh le l = record {
       len = length-set t s v ∙ st .len;
       lows = lows-set p t s v long (sh .low) (st .lows);
       fits = omega (arith, free);
       pivs = pivots-set (λ (x : ℕ). x < suc f) t s v long (st .pivs) (omega arith);
-      basis = λ H. rw (add-one k, add-one s) (basis-keep p H f e k s (entry e m) chosen t (λ i. getD (rl .0) i 0) v q st (rl .2) (rowed h rl H) l long);
+      basis = λ H. rw (add-one k, add-one s)
+          (basis-keep p H f e k s (entry e m) chosen t (λ i. getD (rl .0) i 0) v q st (rl .2) (rowed h rl H) l long);
     }
       where
         free : s < suc f
@@ -174,7 +180,8 @@ module _ (p e f d : ℕ) (m : List ℕ) (chosen : ℕ → Bool) (q : e ≡ suc f
         one : _⊗_ p H (res p H (getD v 24 0)) (res p H (left p s t (λ i. getD (rl .0) i 0) v (getD v 25 0))) ≡ res p H 1
         one = some-unit p H f e k s (entry e m) chosen t (λ i. getD (rl .0) i 0) v q st (rl .2) (rowed h rl H) (omega arith)
 
-    pub opening-end : Prime p → Next p e k s (ltb s e && chosen k) m t v → getD v 25 0 + 1 ≡ e → (r r′ : List ℕ) → length r ≡ d → Opened p k s t v r r′
+    pub opening-end : Prime p → Next p e k s (ltb s e && chosen k) m t v → getD v 25 0 + 1 ≡ e → (r r′ : List ℕ) → length r ≡ d
+        → Opened p k s t v r r′
         → OpeningVector p d (suc f) (entry e m) chosen (place r′)
     opening-end H nx z r r′ n o = opening-of p H d f (entry e m) chosen (place r′) (λ k l. o .small k)
         (solve-end (residues p H) (suc f) (workOf p H f (entry e m) chosen) k s (linesOf p H t) (st .basis H) d (goal (residues p H) f)
@@ -184,12 +191,18 @@ module _ (p e f d : ℕ) (m : List ℕ) (chosen : ℕ → Bool) (q : e ≡ suc f
         want : (ltb s e && chosen k) ≡ true
         want = made-chosen p e k s (ltb s e && chosen k) m t v nx (omega arith)
 
-        solved : Solving (residues p H) (suc f) (workOf p H f (entry e m) chosen) s (linesOf p H t) d (goal (residues p H) f) (asked p H v) 0 (facsOf p H (o .a)) (vecOf p H r′)
-        solved = subst (λ (d : ℕ). Solving (residues p H) (suc f) (workOf p H f (entry e m) chosen) s (linesOf p H t) d (goal (residues p H) f) (asked p H v) 0 (facsOf p H (o .a)) (vecOf p H r′)) n
-            (o .solved .is H (suc f) (workOf p H f (entry e m) chosen) (goal (residues p H) f) (found H (wanted-chosen (ltb s e) (chosen k) want) (nx .made want) z))
+        solved : Solving (residues p H) (suc f) (workOf p H f (entry e m) chosen) s (linesOf p H t) d (goal (residues p H) f)
+            (asked p H v) 0 (facsOf p H (o .a)) (vecOf p H r′)
+        solved = subst
+            (λ (d : ℕ). Solving (residues p H) (suc f) (workOf p H f (entry e m) chosen) s (linesOf p H t) d (goal (residues p H) f)
+            (asked p H v) 0 (facsOf p H (o .a)) (vecOf p H r′)) n
+            (o .solved .is H (suc f) (workOf p H f (entry e m) chosen) (goal (residues p H) f)
+            (found H (wanted-chosen (ltb s e) (chosen k) want) (nx .made want) z))
 
-  pub going-next : (k s : ℕ) (t : List (List ℕ)) (r₀ : List ℕ) (o : Bool) (r v : List ℕ) (o′ : Bool) (r′ : List ℕ) (s′ : ℕ) (t′ : List (List ℕ))
-      → Going p f d (entry e m) chosen k s t r₀ o r → Prime p → e ≤ 12 → length r₀ ≡ d → length r ≡ d → Next p e k s (ltb s e && chosen k) m t v
+  pub going-next : (k s : ℕ) (t : List (List ℕ)) (r₀ : List ℕ) (o : Bool) (r v : List ℕ) (o′ : Bool) (r′ : List ℕ) (s′ : ℕ)
+      (t′ : List (List ℕ))
+      → Going p f d (entry e m) chosen k s t r₀ o r → Prime p → e ≤ 12 → length r₀ ≡ d → length r ≡ d
+      → Next p e k s (ltb s e && chosen k) m t v
       → Settled p e k s t v o r o′ r′ → Stored e s v t s′ t′ → Going p f d (entry e m) chosen (k + 1) s′ t′ r₀ o′ r′
   going-next k s t r₀ o r v o′ r′ s′ t′ g H le n₀ n nx se so = record {
     state = state-next k s t (g .state) v s′ t′ H le nx so;
@@ -212,8 +225,10 @@ module _ (p e f d : ℕ) (m : List ℕ) (chosen : ℕ → Bool) (q : e ≡ suc f
           (λ (l : e ≤ getD v 25 0). let w = so .1 l in subst⁻¹ (λ (t : List (List ℕ)). at t j 25 < f) (w .1) (h j (omega (arith, w .0))))
           (lt-or-ge (getD v 25 0) e)
 
-  pub witness-end : (s : ℕ) (t : List (List ℕ)) → State p f (entry e m) chosen d s t → Prime p → (y z : List ℕ) → ((i : ℕ) → getD y i 0 < p) → getD y f 0 ≡ 1
-      → Killed p s t f 0 y → getD z 0 0 ≡ getD y f 0 → ((i : ℕ) → i < f → getD z (1 + i) 0 ≡ getD y i 0) → Witness p d (suc f) (entry e m) chosen (place z)
+  pub witness-end : (s : ℕ) (t : List (List ℕ)) → State p f (entry e m) chosen d s t → Prime p → (y z : List ℕ)
+      → ((i : ℕ) → getD y i 0 < p) → getD y f 0 ≡ 1
+      → Killed p s t f 0 y → getD z 0 0 ≡ getD y f 0 → ((i : ℕ) → i < f → getD z (1 + i) 0 ≡ getD y i 0)
+      → Witness p d (suc f) (entry e m) chosen (place z)
   witness-end s t st H y z small last kn z0 zs = witness-of p H d f (entry e m) chosen (place z) (place y) low (z0 ∙ last) last next
       (kill-rows (residues p H) (suc f) (workOf p H f (entry e m) chosen) d s (linesOf p H t) (st .basis H) f (vecOf p H y) kill)
       (kill-canon (residues p H) (suc f) (workOf p H f (entry e m) chosen) d s (linesOf p H t) (st .basis H) f (vecOf p H y) kill)
@@ -237,6 +252,7 @@ pub next-made : (p e k s : ℕ) (w : Bool) (m : List ℕ) (t : List (List ℕ)) 
     → ((i : ℕ) → i < e → getD row i 0 ≡ rowAt e m k i) → Lined p e k s t (λ i. getD row i 0) v → Next p e k s w m t v
 next-made p e k s w m t v row q sh rows ln = record { shape = sh; out = λ f. absurd (true≢false (sym q ∙ f)); made = λ h. (row, rows, ln) }
 
-pub next-out : (p e k s : ℕ) (w : Bool) (m : List ℕ) (t : List (List ℕ)) (v : List ℕ) → w ≡ false → (length v ≡ 27) × Low p v → getD v 25 0 ≡ e
+pub next-out : (p e k s : ℕ) (w : Bool) (m : List ℕ) (t : List (List ℕ)) (v : List ℕ) → w ≡ false → (length v ≡ 27) × Low p v
+    → getD v 25 0 ≡ e
     → Next p e k s w m t v
 next-out p e k s w m t v q sh z = record { shape = record { len = sh .0; low = sh .1; piv = omega arith }; out = λ f. z; made = λ h. absurd (false≢true (sym q ∙ h)) }

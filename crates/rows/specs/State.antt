@@ -30,7 +30,8 @@ pub record State (p f : ℕ) (E : ℕ → ℕ → ℕ) (chosen : ℕ → Bool) (
   pub basis : (H : Prime p) → Basis (residues p H) (suc f) (workOf p H f E chosen) k s (linesOf p H t)
 
 -- And r holds the opening vector where the target has turned up; else r is as it was and no pivot is at the last place.
-pub record Going (p f d : ℕ) (E : ℕ → ℕ → ℕ) (chosen : ℕ → Bool) (k s : ℕ) (t : List (List ℕ)) (r₀ : List ℕ) (opens : Bool) (r : List ℕ) : Type 0 where
+pub record Going (p f d : ℕ) (E : ℕ → ℕ → ℕ) (chosen : ℕ → Bool) (k s : ℕ) (t : List (List ℕ)) (r₀ : List ℕ) (opens : Bool)
+    (r : List ℕ) : Type 0 where
   pub state : State p f E chosen k s t
   pub if-open : opens ≡ true → OpeningVector p d (suc f) E chosen (place r) × (length r ≡ length r₀)
   pub if-closed : opens ≡ false → (r ≡ r₀) × ((j : ℕ) → j < s → at t j 25 < f)

@@ -107,7 +107,8 @@ fn settle(
     requires { ⌜ (getD (now v) 25 0 + 1 ≡ e → getD (now v) 24 0 < p) ⌝ }
     requires { ⌜ Lows p (now t) ⌝ }
     requires { ⌜ ((j : ℕ) → j < s → at (now t) j 26 < k) ⌝ }
-    ensures found { λ o. ⌜ (getD (now (v .entry)) 25 0 + 1 ≡ e → (o ≡ true) × Opened p k s (now (t .entry)) (now (v .entry)) (now (r .entry)) (now (r .exit))) ⌝ }
+    ensures found { λ o. ⌜ (getD (now (v .entry)) 25 0 + 1 ≡ e → (o ≡ true)
+        × Opened p k s (now (t .entry)) (now (v .entry)) (now (r .entry)) (now (r .exit))) ⌝ }
     ensures none { λ o. ⌜ ((getD (now (v .entry)) 25 0 + 1 ≡ e → ⊥) → (o ≡ opens) × (now (r .exit) ≡ now (r .entry))) ⌝ }
 {
     let c = v[25];
@@ -121,7 +122,8 @@ fn settle(
 // The witness in the document's order: the last place first.
 fn unload(y: &[u32; 27], z: &mut [u32])
     requires { ⌜ (1 ≤ length (now z)) × (length (now z) ≤ 12) ⌝ }
-    ensures first { λ _. ⌜ (length (now (z .exit)) ≡ length (now (z .entry))) × (getD (now (z .exit)) 0 0 ≡ getD (now (y .entry)) (length (now (z .entry)) - 1) 0) ⌝ }
+    ensures first { λ _. ⌜ (length (now (z .exit)) ≡ length (now (z .entry)))
+        × (getD (now (z .exit)) 0 0 ≡ getD (now (y .entry)) (length (now (z .entry)) - 1) 0) ⌝ }
     ensures others { λ _. ⌜ ((i : ℕ) → i < length (now (z .entry)) - 1 → getD (now (z .exit)) (1 + i) 0 ≡ getD (now (y .entry)) i 0) ⌝ }
 {
     let f = z.len() - 1;
@@ -154,9 +156,11 @@ pub fn ask(
     z: &mut [u32],
 ) -> Answer
     requires { ⌜ Prime p ⌝ }
-    requires { ⌜ (d ≤ 32) × (1 ≤ e) × (e ≤ 12) × (length (now entries) ≡ d * e) × (length (now r) ≡ d) × (length (now z) ≡ e) ⌝ }
+    requires { ⌜ (d ≤ 32) × (1 ≤ e) × (e ≤ 12) × (length (now entries) ≡ d * e)
+        × (length (now r) ≡ d) × (length (now z) ≡ e) ⌝ }
     requires { ⌜ ((i : ℕ) → getD (now entries) i 0 < p) ⌝ }
-    ensures { λ a. ⌜ Answered p d e chosen (now (entries .entry)) (now (r .entry)) (now (z .entry)) a (now (r .exit)) (now (z .exit)) ⌝ }
+    ensures { λ a. ⌜ Answered p d e chosen (now (entries .entry)) (now (r .entry)) (now (z .entry))
+        a (now (r .exit)) (now (z .exit)) ⌝ }
 {
     let inv = residue::ratio(p);
     let mut t = blank();

@@ -172,4 +172,5 @@ module _ (s : Shape) (labels entries : List ℕ) (fits f : Bool) (more r : ℕ) 
   call-stands h = stands more (e ∙ ap (λ b. refusalOf s labels entries b 0) q) h ∙ sym (refusal-more s labels entries fits more)
 
   pub call-more : r ≡ 0 → more ≡ refusalOf s labels entries fits more
-  call-more h = sym (refusal-more s labels entries fits more ∙ ap (λ k. orElse k more) (sym (e ∙ ap (λ b. refusalOf s labels entries b 0) q) ∙ h))
+  call-more h = sym
+      (refusal-more s labels entries fits more ∙ ap (λ k. orElse k more) (sym (e ∙ ap (λ b. refusalOf s labels entries b 0) q) ∙ h))

@@ -26,7 +26,8 @@ contentRefusal p n labels entries =
     orElse (unless (each (within 1 n) labels) 6)
     (unless (eachBelow p entries) 7)
 
--- Every call on a scheme: 1 to 4; then 5, "a lent list has not exactly the length needed", where `lengths` says of the call's own lists that
+-- Every call on a scheme: 1 to 4; then 5, "a lent list has not exactly the length needed", where `lengths` says of the call's own lists
+-- that
 -- they have theirs; then 6 and 7; then what the call refuses after that.
 unfoldable pub refusalOf : Shape → List ℕ → List ℕ → Bool → ℕ → ℕ
 refusalOf s labels entries lengths more =

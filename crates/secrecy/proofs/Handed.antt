@@ -1,15 +1,17 @@
--- Demand 3 about what the set question hands out. `shown`: on each scheme and each set of its participants the call hands out the vector that
--- gives the code back from every dealing, or the witness that pairs all random lists for one code with all for another, one to one, with the
+-- Demand 3 about what the set question hands out. `shown`: on each scheme and each set of its participants the call hands out the vector
+-- that
+-- gives the code back from every dealing, or the witness that pairs all random lists for one code with all for another, one to one, with
+-- the
 -- same cards in each pair. `only-one`: no set has both. `no-row`: a set without rows is closed with the target as witness.
 -- Assumes nothing.
 use mathlib.Core.Path.{_≡_, refl, sym, ap, ap₂, _∙_, subst}
 use mathlib.Core.Bool.{Bool, false}
 use mathlib.Core.List.{List, _∷_}
 use mathlib.Core.Logic.{_⊎_, inl, inr}
-use lib.Dec.{eqb}
-use native.Mathlib.Nat.{zero-div}
 use Prim.Native.Nat.{ℕ, suc, _^_, _<_, _-_, _*_, _%_}
+use native.Mathlib.Nat.{zero-div}
 use native.Mathlib.Omega.{arith}
+use lib.Dec.{eqb}
 use lib.ListN.{length}
 use lib.Seq.{ext-getD}
 use Rattle.linear.specs.Combination.{total}
@@ -43,17 +45,20 @@ module _ (s : Shape) (labels entries : List ℕ) (set : ℕ) where
   columns : Valid s labels entries → s .e ≡ suc (s .e - 1)
   columns v = omega (arith, v .e-low)
 
-  share-at : (secret : ℕ) (xs : List ℕ) (k : ℕ) → k < s .d → place (sharesOf s entries secret xs) k ≡ shareOf s entries (place (secret ∷ xs)) k
+  share-at : (secret : ℕ) (xs : List ℕ) (k : ℕ) → k < s .d
+      → place (sharesOf s entries secret xs) k ≡ shareOf s entries (place (secret ∷ xs)) k
   unfolding sharesOf
   share-at secret xs k l = list-at (s .d) (shareOf s entries (place (secret ∷ xs))) k l
 
   -- The vector of an open set gives the code back.
-  pub opening-gives-back : Valid s labels entries → (r : ℕ → ℕ) → Set.OpeningVector s labels entries set r → GivesBack s labels entries set r
+  pub opening-gives-back : Valid s labels entries → (r : ℕ → ℕ) → Set.OpeningVector s labels entries set r
+      → GivesBack s labels entries set r
   opening-gives-back v r o = record {
     back = λ secret xs shares l w same.
         code-back (s .p) (v .prime) (s .d) (s .e - 1) E chosen r (place (secret ∷ xs)) (place shares)
         (subst (λ (e : ℕ). Rows.OpeningVector (s .p) (s .d) e E chosen r) (columns v) o)
-        (λ k lk q. sym (ap (λ (e : ℕ). total e (λ j. E k j * place (secret ∷ xs) j) % s .p) (columns v)) ∙ sym (share-at secret xs k lk) ∙ sym (same k lk q)) l;
+        (λ k lk q. sym (ap (λ (e : ℕ). total e (λ j. E k j * place (secret ∷ xs) j) % s .p) (columns v)) ∙ sym (share-at secret xs k lk)
+        ∙ sym (same k lk q)) l;
   }
 
   -- The witness of a closed set pairs the random lists.
@@ -65,7 +70,8 @@ module _ (s : Shape) (labels entries : List ℕ) (set : ℕ) where
         let ys : List ℕ = partner (s .p) z first second xs in
         share-at second ys k l
         ∙ ap (λ (e : ℕ). total e (λ j. E k j * place (second ∷ ys) j) % s .p) (columns v)
-        ∙ same-shares (s .p) (v .prime) (s .d) (s .e - 1) E chosen z (subst (λ (e : ℕ). Rows.Witness (s .p) (s .d) e E chosen z) (columns v) c) first second xs lf ls
+        ∙ same-shares (s .p) (v .prime) (s .d) (s .e - 1) E chosen z
+        (subst (λ (e : ℕ). Rows.Witness (s .p) (s .d) e E chosen z) (columns v) c) first second xs lf ls
         (subst (λ (e : ℕ). RandomList (s .p) e xs) (columns v) w) k l q
         ∙ sym (ap (λ (e : ℕ). total e (λ j. E k j * place (first ∷ xs) j) % s .p) (columns v)) ∙ sym (share-at first xs k l);
   }
@@ -85,18 +91,22 @@ module _ (s : Shape) (labels entries : List ℕ) (set : ℕ) where
       let none : 0 < s .p = omega (arith, v .p-low) in
       let rx = zeros-random v in
       let ys : List ℕ = partner (s .p) z 0 1 xs in
-      let a : joined s (sharesOf s entries 1 ys) r ≡ 1 = g .back 1 ys (sharesOf s entries 1 ys) one (w .random 0 1 none one xs rx) (λ k l q. refl) in
+      let a : joined s (sharesOf s entries 1 ys) r ≡ 1 = g .back 1 ys (sharesOf s entries 1 ys) one (w .random 0 1 none one xs rx)
+      (λ k l q. refl) in
       let b : joined s (sharesOf s entries 1 ys) r ≡ 0 = g .back 0 xs (sharesOf s entries 1 ys) none rx (w .cards 0 1 none one xs rx) in
       omega arith
 
   -- A set that owns no row is closed.
   pub no-row-closed : Valid s labels entries → ((k : ℕ) → k < s .d → ofSet set labels k ≡ false) → Set.Closed s labels entries set
   no-row-closed v none = subst (λ (e : ℕ). Rows.Closed (s .p) (s .d) e E chosen) (sym (columns v))
-      (witness-closed (s .p) (v .prime) (s .d) (s .e - 1) E chosen target (none-chosen (s .p) (v .prime) (s .d) (s .e - 1) E chosen none .0))
+      (witness-closed (s .p) (v .prime) (s .d) (s .e - 1) E chosen target
+      (none-chosen (s .p) (v .prime) (s .d) (s .e - 1) E chosen none .0))
 
--- Demand 3: for each scheme and each set of its participants the set question is not refused and hands out exactly one of the two, the vector
+-- Demand 3: for each scheme and each set of its participants the set question is not refused and hands out exactly one of the two, the
+-- vector
 -- that gives the code back or the witness that pairs the random lists.
-module _ (s : Shape) (labels entries : List ℕ) (set : ℕ) (h : IsScheme s labels entries) (l : set < 2 ^ s .n) (r z : List ℕ) (nr : length r ≡ s .d) (nz : length z ≡ s .e) where
+module _ (s : Shape) (labels entries : List ℕ) (set : ℕ) (h : IsScheme s labels entries) (l : set < 2 ^ s .n) (r z : List ℕ)
+    (nr : length r ≡ s .d) (nz : length z ≡ s .e) where
   not-refused : askRefusal s labels entries set (length r) (length z) ≡ 0
   not-refused = ap₂ (λ m n. askRefusal s labels entries set m n) nr nz ∙ ask-answers s labels entries set h l
 
@@ -125,8 +135,10 @@ module _ (s : Shape) (labels entries : List ℕ) (set : ℕ) (h : IsScheme s lab
     refl,
     ext-getD 0 z′ (listOf (s .e) target) (x .2 ∙ sym (list-length (s .e) target)) (λ j lj.
         witness-unique (s .p) (sound .prime) (s .d) (s .e - 1) (E s labels entries set) (chosen s labels entries set) (place z′) target
-        (subst (λ (e : ℕ). Rows.Witness (s .p) (s .d) e (E s labels entries set) (chosen s labels entries set) (place z′)) (columns s labels entries set sound) (x .1))
-        (none-chosen (s .p) (sound .prime) (s .d) (s .e - 1) (E s labels entries set) (chosen s labels entries set) none .0) j (omega (arith, x .2, columns s labels entries set sound))
+        (subst (λ (e : ℕ). Rows.Witness (s .p) (s .d) e (E s labels entries set) (chosen s labels entries set) (place z′))
+        (columns s labels entries set sound) (x .1))
+        (none-chosen (s .p) (sound .prime) (s .d) (s .e - 1) (E s labels entries set) (chosen s labels entries set) none .0) j
+        (omega (arith, x .2, columns s labels entries set sound))
         ∙ sym (list-at (s .e) target j (omega (arith, x .2)))),
   )
   no-row none (Refused k) r′ z′ x = absurd (omega (arith, x .0, x .1, not-refused))

@@ -31,7 +31,8 @@ module _ (p : ℕ) (H : Prime p) where
 
   step-back : (x z a b : ℕ) → x < p → (a + b) % p ≡ 0 → ((x + z * a) % p + z * b) % p ≡ x
   step-back x z a b lx h = mod-add-mod (x + z * a) p (z * b)
-      ∙ mod-by p (x + z * a + z * b) x 0 (z * ((a + b) / p)) (omega (arith, ap (λ (y : ℕ). z * y) (div-add-mod' (a + b) p), ap (λ (y : ℕ). z * y) h))
+      ∙ mod-by p (x + z * a + z * b) x 0 (z * ((a + b) / p))
+      (omega (arith, ap (λ (y : ℕ). z * y) (div-add-mod' (a + b) p), ap (λ (y : ℕ). z * y) h))
       ∙ mod-eq-of-lt lx
 
   module _ (e : ℕ) (z : ℕ → ℕ) where
@@ -53,12 +54,15 @@ module _ (p : ℕ) (H : Prime p) where
     }
 
     -- The partner's partner is the list itself: the map with the codes exchanged is the inverse.
-    pub partner-back : (first second : ℕ) (xs : List ℕ) → first < p → second < p → RandomList p e xs → partner p z second first (partner p z first second xs) ≡ xs
-    partner-back first second xs lf ls h = ext-getD 0 (partner p z second first ys) xs (partner-length second first ys ∙ partner-length first second xs)
+    pub partner-back : (first second : ℕ) (xs : List ℕ) → first < p → second < p → RandomList p e xs
+        → partner p z second first (partner p z first second xs) ≡ xs
+    partner-back first second xs lf ls h = ext-getD 0 (partner p z second first ys) xs
+        (partner-length second first ys ∙ partner-length first second xs)
         (λ j l. let n = partner-length second first ys in let m = partner-length first second xs in
         partner-at second first ys j (omega arith)
         ∙ ap (λ (y : ℕ). (y + z (suc j) * minus p first second) % p) (partner-at first second xs j (omega arith))
-        ∙ step-back (place xs j) (z (suc j)) (minus p second first) (minus p first second) (h .below j (omega arith)) (minus-back first second lf ls))
+        ∙ step-back (place xs j) (z (suc j)) (minus p second first) (minus p first second) (h .below j (omega arith))
+        (minus-back first second lf ls))
       where
         ys : List ℕ
         ys = partner p z first second xs
@@ -66,18 +70,22 @@ module _ (p : ℕ) (H : Prime p) where
   module _ (d f : ℕ) (E : ℕ → ℕ → ℕ) (chosen : ℕ → Bool) (z : ℕ → ℕ) (c : Witness p d (suc f) E chosen z) where
     -- The second list b is the first one and (second - first) times the witness, place by place modulo p.
     moved : (first second : ℕ) (xs : List ℕ) → first < p → second < p → RandomList p (suc f) xs → (j : ℕ) → j < suc f
-        → res p H (place (second ∷ partner p z first second xs) j) ≡ _⊕_ p H (res p H (place (first ∷ xs) j)) (_⊗_ p H (res p H (minus p second first)) (res p H (z j)))
+        → res p H (place (second ∷ partner p z first second xs) j) ≡ _⊕_ p H (res p H (place (first ∷ xs) j))
+        (_⊗_ p H (res p H (minus p second first)) (res p H (z j)))
     moved first second xs lf ls h zero l = res-same p H second (first + minus p second first * z 0)
         (sym (ap (λ (y : ℕ). (first + minus p second first * y) % p) (c .first) ∙ ap (λ (y : ℕ). (first + y) % p) (omega arith)
         ∙ add-mod-mod first (second + (p - first)) p ∙ mod-by p (first + (second + (p - first))) second 0 1 (omega arith)))
-        ∙ sym (res-add p H first (minus p second first * z 0)) ∙ ap (λ w. _⊕_ p H (res p H first) w) (sym (res-mul p H (minus p second first) (z 0)))
+        ∙ sym (res-add p H first (minus p second first * z 0))
+        ∙ ap (λ w. _⊕_ p H (res p H first) w) (sym (res-mul p H (minus p second first) (z 0)))
     moved first second xs lf ls h (suc j) l = ap (res p H) (partner-at (suc f) z first second xs j (omega (arith, h .len)))
         ∙ res-mod p H (place xs j + z (suc j) * minus p second first)
         ∙ sym (res-add p H (place xs j) (z (suc j) * minus p second first))
         ∙ ap (λ w. _⊕_ p H (res p H (place xs j)) w) (ap (res p H) (omega arith) ∙ sym (res-mul p H (minus p second first) (z (suc j))))
 
-    pub same-shares : (first second : ℕ) (xs : List ℕ) → first < p → second < p → RandomList p (suc f) xs → (k : ℕ) → k < d → chosen k ≡ true
-        → total (suc f) (λ j. E k j * place (second ∷ partner p z first second xs) j) % p ≡ total (suc f) (λ j. E k j * place (first ∷ xs) j) % p
+    pub same-shares : (first second : ℕ) (xs : List ℕ) → first < p → second < p → RandomList p (suc f) xs → (k : ℕ) → k < d
+        → chosen k ≡ true
+        → total (suc f) (λ j. E k j * place (second ∷ partner p z first second xs) j) % p ≡ total (suc f)
+        (λ j. E k j * place (first ∷ xs) j) % p
     same-shares first second xs lf ls h k lk q = ap (λ a. a .0)
         (res-dot p H (suc f) (E k) (place (second ∷ partner p z first second xs))
         ∙ dot-comm (residueRing p H) (suc f) row (λ j. res p H (place (second ∷ partner p z first second xs) j))
@@ -98,4 +106,5 @@ module _ (p : ℕ) (H : Prime p) where
         row j = res p H (E k j)
 
         killed : dot (residueRing p H) (suc f) (λ j. res p H (z j)) row ≡ res p H 0
-        killed = dot-comm (residueRing p H) (suc f) (λ j. res p H (z j)) row ∙ dot-iff p H (suc f) (E k) z 0 .0 (c .kills k lk q ∙ sym (zero-mod p))
+        killed = dot-comm (residueRing p H) (suc f) (λ j. res p H (z j)) row
+            ∙ dot-iff p H (suc f) (E k) z 0 .0 (c .kills k lk q ∙ sym (zero-mod p))

@@ -27,7 +27,8 @@ module _ (p : ℕ) (H : Prime p) (d f : ℕ) (E : ℕ → ℕ → ℕ) (chosen :
       ∙ sum-cong (residueRing p H) d (λ k. _⊗_ p H (res p H (r k)) (res p H (share b k)))
       (λ k. _⊗_ p H (res p H (r k)) (dot (residueRing p H) (suc f) (λ j. res p H (b j)) (W p H (suc f) E k)))
       (λ k l. ap (λ z. _⊗_ p H (res p H (r k)) z) (as-dot k))
-      ∙ recover (residues p H) (suc f) (W p H (suc f) E) d (λ j. res p H (target j)) (λ j. res p H (b j)) ((λ k. res p H (r k)), adds-up p H (suc f) E d r target (o .gives))
+      ∙ recover (residues p H) (suc f) (W p H (suc f) E) d (λ j. res p H (target j)) (λ j. res p H (b j))
+      ((λ k. res p H (r k)), adds-up p H (suc f) E d r target (o .gives))
       ∙ sym (res-dot p H (suc f) b target) ∙ ap (res p H) (times-target f b))
     where
       as-dot : (k : ℕ) → res p H (share b k) ≡ dot (residueRing p H) (suc f) (λ j. res p H (b j)) (W p H (suc f) E k)
@@ -41,9 +42,12 @@ module _ (p : ℕ) (H : Prime p) (d f : ℕ) (E : ℕ → ℕ → ℕ) (chosen :
     where
       go : (k : ℕ) → k < d → (b : Bool) → chosen k ≡ b → r k * x k ≡ r k * y k
       go k l true q = ap (λ (z : ℕ). r k * z) (h k l q)
-      go k l false q = let z = opening-outside p H d f E chosen r o k l q in ap (λ (w : ℕ). w * x k) z ∙ omega arith ∙ ap (λ (w : ℕ). w * y k) (sym z)
+      go k l false q =
+          let z = opening-outside p H d f E chosen r o k l q in
+          ap (λ (w : ℕ). w * x k) z ∙ omega arith ∙ ap (λ (w : ℕ). w * y k) (sym z)
 
   -- So whatever shares a dealing gives at the chosen rows, the joined number is its code.
   pub code-back : (r b x : ℕ → ℕ) → OpeningVector p d (suc f) E chosen r → ((k : ℕ) → k < d → chosen k ≡ true → share b k ≡ x k) → b 0 < p
       → total d (λ k. r k * x k) % p ≡ b 0
-  code-back r b x o h l = ap (λ (z : ℕ). z % p) (joined-same r x (share b) o (λ k lk q. sym (h k lk q))) ∙ weighted-shares r b o ∙ mod-eq-of-lt l
+  code-back r b x o h l = ap (λ (z : ℕ). z % p) (joined-same r x (share b) o (λ k lk q. sym (h k lk q))) ∙ weighted-shares r b o
+      ∙ mod-eq-of-lt l

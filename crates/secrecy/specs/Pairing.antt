@@ -16,7 +16,8 @@ pub record RandomList (p e : ℕ) (xs : List ℕ) : Type 0 where
 abbrev pub minus : ℕ → ℕ → ℕ → ℕ
 minus p second first = (second + (p - first)) % p
 
--- Place j of the partner, for the second code, of the random list xs for the first: z without its first number, times (second - first), added.
+-- Place j of the partner, for the second code, of the random list xs for the first: z without its first number, times (second - first),
+-- added.
 abbrev pub partnerAt : ℕ → (ℕ → ℕ) → ℕ → ℕ → List ℕ → ℕ → ℕ
 partnerAt p z first second xs j = (place xs j + z (suc j) * minus p second first) % p
 

@@ -12,13 +12,23 @@ refusal-requires : tie.Need-refusal-requires
 refusal-requires c κs = tt
 
 returns : tie.Need-returns
-returns c = let s = c .before .before .before .before .before in call-stands (s .args .s) (s .args .labels .now) (s .args .entries .now) _ _ _ _ (c .before .before .both-same .ensures) (c .before .refusal .ensures) (c .if1 .taken)
+returns c =
+    let s = c .before .before .before .before .before in
+    call-stands (s .args .s) (s .args .labels .now) (s .args .entries .now) _ _ _ _ (c .before .before .both-same .ensures)
+    (c .before .refusal .ensures) (c .if1 .taken)
 
 set-refusal-requires : tie.Need-set-refusal-requires
-set-refusal-requires c κs = let s = c .before .before .before .before .before in let v = valid (s .args .s) (s .args .labels .now) (s .args .entries .now) _ (gone (c .before .refusal .ensures) (c .if1 .left)) in v .n-high
+set-refusal-requires c κs =
+    let s = c .before .before .before .before .before in
+    let v = valid (s .args .s) (s .args .labels .now) (s .args .entries .now) _ (gone (c .before .refusal .ensures) (c .if1 .left)) in
+    v .n-high
 
 returns-2 : tie.Need-returns-2
-returns-2 c = let s = c .before .before .before .before .before .before in c .set-refusal .ensures ∙ call-more (s .args .s) (s .args .labels .now) (s .args .entries .now) _ _ _ _ (c .before .before .before .both-same .ensures) (c .before .before .refusal .ensures) (c .before .if1 .left)
+returns-2 c =
+    let s = c .before .before .before .before .before .before in
+    c .set-refusal .ensures
+    ∙ call-more (s .args .s) (s .args .labels .now) (s .args .entries .now) _ _ _ _ (c .before .before .before .both-same .ensures)
+    (c .before .before .refusal .ensures) (c .before .if1 .left)
 
 pub ask-refusal-spec : {M : Type 1} → statement M
 ask-refusal-spec =

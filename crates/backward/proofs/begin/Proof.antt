@@ -1,13 +1,13 @@
 -- `backward::begin` meets its contract: the loop fills r with 0, and then q is stored at place k.
 -- Assumes nothing.
-use Rattle.backward.proofs.Lists.{cleared}
-use Rattle.lists.proofs.Fill.{Filled, fill-start, fill-turn}
+use mathlib.Core.Path.{refl, _∙_}
+use Prim.Native.Nat.{_-_}
+use native.Mathlib.Omega.{arith}
 use lib.Seq.{getD-set-same, getD-set-other}
 use lib.ListN.{length, length-set}
-use Prim.Native.Nat.{_-_}
-use mathlib.Core.Path.{refl, _∙_}
 use borrow.Author.Needs.{needs}
-use native.Mathlib.Omega.{arith}
+use Rattle.lists.proofs.Fill.{Filled, fill-start, fill-turn}
+use Rattle.backward.proofs.Lists.{cleared}
 use Rattle.backward.proofs.begin.Statement.{statement}
 use Rattle.backward.proofs.begin.Tie as tie
 
@@ -45,7 +45,18 @@ same-length : tie.Need-same-length Inv-loop μ-loop
 same-length c = simp length-set (c .before .loop .inv .size)
 
 returns : tie.Need-returns Inv-loop μ-loop
-returns c = let s = c .before .before in let l = c .before .loop in let z = cleared (s .args .r .now) (l .r) (l .i) (l .inv) (omega arith) in let n = l .inv .size in (simp length-set n, (getD-set-same (l .r) (s .args .k) (s .args .q) 0 (omega arith), λ i ne. getD-set-other (l .r) (s .args .k) i (s .args .q) 0 ne ∙ z i))
+returns c =
+    let s = c .before .before in
+    let l = c .before .loop in
+    let z = cleared (s .args .r .now) (l .r) (l .i) (l .inv) (omega arith) in
+    let n = l .inv .size in (
+      simp length-set n,
+      (
+        getD-set-same (l .r) (s .args .k) (s .args .q) 0 (omega arith),
+        λ i ne. getD-set-other (l .r) (s .args .k) i (s .args .q) 0 ne
+            ∙ z i,
+      ),
+    )
 
 pub begin-spec : {M : Type 1} → statement M
 begin-spec =

@@ -1,15 +1,18 @@
 -- `backward::minus` meets its contract: p - x is below p but for x = 0, where it is 0 modulo p.
 -- Assumes nothing.
-use native.Mathlib.Nat.{mod-self, mod-eq-of-lt}
-use Prim.Native.Nat.{ℕ, _-_, _%_}
 use mathlib.Core.Path.{_≡_, sym, ap, _∙_}
+use Prim.Native.Nat.{ℕ, _-_, _%_}
+use native.Mathlib.Nat.{mod-self, mod-eq-of-lt}
 use native.Mathlib.Omega.{arith}
 use borrow.Author.Needs.{needs}
 use Rattle.backward.proofs.minus.Statement.{statement}
 use Rattle.backward.proofs.minus.Tie as tie
 
 returns : tie.Need-returns
-returns c = let s = c .before in let z : s .args .p - s .args .x ≡ s .args .p = omega arith in (sym (ap (λ (y : ℕ). y % s .args .p) z ∙ mod-self (s .args .p)), omega arith)
+returns c =
+    let s = c .before in
+    let z : s .args .p - s .args .x ≡ s .args .p = omega arith in
+    (sym (ap (λ (y : ℕ). y % s .args .p) z ∙ mod-self (s .args .p)), omega arith)
 
 sub-result : tie.Need-sub-result
 sub-result c = search needs

@@ -1,8 +1,8 @@
 -- `backward::times` meets its contract: the product of two numbers of 32 bits fits 64.
 -- Assumes nothing.
-use Rattle.residue.proofs.Modulo.{product-fits}
 use native.Mathlib.Omega.{arith}
 use borrow.Author.Needs.{needs}
+use Rattle.residue.proofs.Modulo.{product-fits}
 use Rattle.backward.proofs.times.Statement.{statement}
 use Rattle.backward.proofs.times.Tie as tie
 

@@ -1,7 +1,7 @@
 -- `backward::weight` meets its contract: what its three products and its sum ensure, put together.
 -- Assumes nothing.
-use Rattle.backward.proofs.Turns.{weight-is}
 use borrow.Author.Needs.{needs}
+use Rattle.backward.proofs.Turns.{weight-is}
 use Rattle.backward.proofs.weight.Statement.{statement}
 use Rattle.backward.proofs.weight.Tie as tie
 
@@ -39,7 +39,11 @@ times-requires-2 : tie.Need-times-requires-2
 times-requires-2 c κs = search needs
 
 returns : tie.Need-returns
-returns c = (weight-is _ _ _ _ _ _ _ _ (c .times2 .ensures .0) (c .before .before .col-dot .ensures .0) (c .before .before .before .times .ensures .0), c .times2 .ensures .1)
+returns c = (
+  weight-is _ _ _ _ _ _ _ _ (c .times2 .ensures .0) (c .before .before .col-dot .ensures .0)
+      (c .before .before .before .times .ensures .0),
+  c .times2 .ensures .1,
+)
 
 pub weight-spec : {M : Type 1} → statement M
 weight-spec =

@@ -47,14 +47,16 @@ loop-again c =
     let s = c .before .before .before .before in
     let l = c .before .before .before .loop in
     let n : length (s .args .t5) ≡ 27 = search needs in
-    fill-turn 0 (s .args .e) (rested (s .args .p) (s .args .s) (s .args .t .now) (s .args .t5)) (s .args .t5) (l .x) (l .i) (l .i) (c .col-dot .result) (l .inv) (omega arith) (omega arith)
+    fill-turn 0 (s .args .e) (rested (s .args .p) (s .args .s) (s .args .t .now) (s .args .t5)) (s .args .t5) (l .x) (l .i) (l .i)
+    (c .col-dot .result) (l .inv) (omega arith) (omega arith)
     (omega arith) (c .col-dot .ensures .0)
 
 returns : tie.Need-returns Inv-loop μ-loop
 returns c =
     let s = c .before .before in
     let l = c .before .loop in
-    changed (s .args .p) (s .args .e) (rested (s .args .p) (s .args .s) (s .args .t .now) (s .args .t5)) (s .args .t5) (l .x) (l .i) (l .inv) (omega arith) (search needs) (s .pre .1 .1 .0) (λ k. mod-lt _ (s .pre .0 .0))
+    changed (s .args .p) (s .args .e) (rested (s .args .p) (s .args .s) (s .args .t .now) (s .args .t5)) (s .args .t5) (l .x) (l .i)
+    (l .inv) (omega arith) (search needs) (s .pre .1 .1 .0) (λ k. mod-lt _ (s .pre .0 .0))
 
 pub rest-spec : {M : Type 1} → statement M
 rest-spec =

@@ -58,14 +58,16 @@ loop-again c =
     let s = c .before .before .before in
     let l = c .before .before .loop in
     let n : length (s .args .t5) ≡ 27 = search needs in
-    fill-turn 0 (s .args .e) (λ k. s .args .q * getD (s .args .t5) k 0 % s .args .p) (s .args .t5) (l .x) (l .i) (l .i) (c .reduce .result) (l .inv) (omega arith) (omega arith)
+    fill-turn 0 (s .args .e) (λ k. s .args .q * getD (s .args .t5) k 0 % s .args .p) (s .args .t5) (l .x) (l .i) (l .i)
+    (c .reduce .result) (l .inv) (omega arith) (omega arith)
     (omega arith) (c .reduce .ensures .0)
 
 returns : tie.Need-returns Inv-loop μ-loop
 returns c =
     let s = c .before .before in
     let l = c .before .loop in
-    changed (s .args .p) (s .args .e) (λ k. s .args .q * getD (s .args .t5) k 0 % s .args .p) (s .args .t5) (l .x) (l .i) (l .inv) (omega arith) (search needs) (s .pre .1 .1) (λ k. mod-lt _ (s .pre .0 .0))
+    changed (s .args .p) (s .args .e) (λ k. s .args .q * getD (s .args .t5) k 0 % s .args .p) (s .args .t5) (l .x) (l .i) (l .inv)
+    (omega arith) (search needs) (s .pre .1 .1) (λ k. mod-lt _ (s .pre .0 .0))
 
 pub scaled-spec : {M : Type 1} → statement M
 scaled-spec =

@@ -1,7 +1,7 @@
 -- `rows::blank` meets its contract: a table of zeros, computed.
 -- Assumes nothing.
-use Rattle.rows.proofs.Lists.{none-rows}
 use mathlib.Core.Path.{refl}
+use Rattle.rows.proofs.Lists.{none-rows}
 use Rattle.rows.proofs.blank.Statement.{statement}
 use Rattle.rows.proofs.blank.Tie as tie
 

@@ -16,7 +16,11 @@ add-if1 : tie.Need-add-if1
 add-if1 c = search needs
 
 opening-requires : tie.Need-opening-requires
-opening-requires c κs = let s = c .before .before .before .before in ((s .pre .0 .0, s .pre .0 .1, s .pre .0 .2, s .pre .0 .3), (s .pre .1 .0, (s .pre .1 .1 .0 (omega arith), (s .pre .1 .1 .1 .0, s .pre .1 .1 .1 .1))))
+opening-requires c κs =
+    let s = c .before .before .before .before in (
+      (s .pre .0 .0, s .pre .0 .1, s .pre .0 .2, s .pre .0 .3),
+      (s .pre .1 .0, (s .pre .1 .1 .0 (omega arith), (s .pre .1 .1 .1 .0, s .pre .1 .1 .1 .1))),
+    )
 
 same-length : tie.Need-same-length
 same-length c = c .before .before .opening .ensures .len

@@ -1,12 +1,12 @@
 -- `rows::unload` meets its contract: the loop fills the places after the first.
 -- Assumes nothing.
-use Rattle.lists.proofs.Fill.{Filled, fill-start, fill-turn}
+use mathlib.Core.Path.{refl, _∙_}
+use Prim.Native.Nat.{_-_}
+use native.Mathlib.Omega.{arith}
 use lib.Seq.{getD-set-same}
 use lib.ListN.{length, getD, length-set}
-use Prim.Native.Nat.{_-_}
-use mathlib.Core.Path.{refl, _∙_}
 use borrow.Author.Needs.{needs}
-use native.Mathlib.Omega.{arith}
+use Rattle.lists.proofs.Fill.{Filled, fill-start, fill-turn}
 use Rattle.rows.proofs.unload.Statement.{statement}
 use Rattle.rows.proofs.unload.Tie as tie
 
@@ -44,7 +44,10 @@ mul-z-3 : tie.Need-mul-z-3 Inv-loop μ-loop
 mul-z-3 c = search needs
 
 slice-write-z-2 : tie.Need-slice-write-z-2 Inv-loop μ-loop
-slice-write-z-2 c = let n = length-set (c .before .before .before .before .args .z .now) 0 (getD (c .before .before .before .before .args .y .now) (length (c .before .before .before .before .args .z .now) - 1) 0) in omega (arith, c .before .before .loop .inv .size)
+slice-write-z-2 c =
+    let n = length-set (c .before .before .before .before .args .z .now) 0
+    (getD (c .before .before .before .before .args .y .now) (length (c .before .before .before .before .args .z .now) - 1) 0) in
+    omega (arith, c .before .before .loop .inv .size)
 
 add-i : tie.Need-add-i Inv-loop μ-loop
 add-i c = search needs
@@ -53,13 +56,28 @@ loop-less : tie.Need-loop-less Inv-loop μ-loop
 loop-less c = search needs
 
 loop-again : tie.Need-loop-again Inv-loop μ-loop
-loop-again c = let s = c .before .before .before .before in let l = c .before .before .loop in let n = length-set (s .args .z .now) 0 (getD (s .args .y .now) (length (s .args .z .now) - 1) 0) in fill-turn 1 (length (s .args .z .now) - 1) (λ k. getD (s .args .y .now) k 0) _ _ _ _ _ (l .inv) (omega arith) (omega arith) (omega arith) refl
+loop-again c =
+    let s = c .before .before .before .before in
+    let l = c .before .before .loop in
+    let n = length-set (s .args .z .now) 0 (getD (s .args .y .now) (length (s .args .z .now) - 1) 0) in
+    fill-turn 1 (length (s .args .z .now) - 1) (λ k. getD (s .args .y .now) k 0) _ _ _ _ _ (l .inv) (omega arith) (omega arith)
+    (omega arith) refl
 
 same-length : tie.Need-same-length Inv-loop μ-loop
 same-length c = simp length-set at (c .before .loop .inv .size)
 
 returns : tie.Need-returns Inv-loop μ-loop
-returns c = let s = c .before .before .before in let l = c .before .loop in ((simp length-set at (l .inv .size), l .inv .before 0 (omega arith) ∙ getD-set-same (s .args .z .now) 0 (getD (s .args .y .now) (length (s .args .z .now) - 1) 0) 0 (omega arith)), λ i li. l .inv .done i (omega arith))
+returns c =
+    let s = c .before .before .before in
+    let l = c .before .loop in (
+      (
+        simp length-set at (l .inv .size),
+        l .inv .before 0 (omega arith)
+            ∙ getD-set-same (s .args .z .now) 0 (getD (s .args .y .now) (length (s .args .z .now) - 1) 0) 0
+            (omega arith),
+      ),
+      λ i li. l .inv .done i (omega arith),
+    )
 
 pub unload-spec : {M : Type 1} → statement M
 unload-spec =

@@ -1,7 +1,7 @@
 -- `rows::wanted` meets its contract: the shift and the remainder are the bit.
 -- Assumes nothing.
-use borrow.Author.Tests.{lt-ltb, le-ltb}
 use native.Mathlib.Omega.{arith}
+use borrow.Author.Tests.{lt-ltb, le-ltb}
 use borrow.Author.Needs.{needs}
 use Rattle.rows.proofs.wanted.Statement.{statement}
 use Rattle.rows.proofs.wanted.Tie as tie
