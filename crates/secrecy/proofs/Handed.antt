@@ -42,10 +42,10 @@ module _ (s : Shape) (labels entries : List ℕ) (set : ℕ) where
   abbrev chosen : ℕ → Bool
   chosen = ofSet set labels
 
-  columns : Valid s labels entries → s .e ≡ suc (s .e - 1)
+  pub columns : Valid s labels entries → s .e ≡ suc (s .e - 1)
   columns v = omega (arith, v .e-low)
 
-  share-at : (secret : ℕ) (xs : List ℕ) (k : ℕ) → k < s .d
+  pub share-at : (secret : ℕ) (xs : List ℕ) (k : ℕ) → k < s .d
       → place (sharesOf s entries secret xs) k ≡ shareOf s entries (place (secret ∷ xs)) k
   unfolding sharesOf
   share-at secret xs k l = list-at (s .d) (shareOf s entries (place (secret ∷ xs))) k l

@@ -1,3 +1,4 @@
 pub mod Recover
 pub mod Pairing
 pub mod Handed
+pub mod Joined
