@@ -12,14 +12,13 @@ use Rattle.ask.specs.declared.Verdict.{Verdict}
 use Rattle.ask.specs.declared.Verdict.the-variants.{Open, Closed, Refused}
 
 -- r and z are the lent lists before the call, r′ and z′ after it. Open: r′ is the opening vector and z stays. Closed: z′ is the witness and
--- r
--- stays. Refused: the paper's number, and both stay.
+-- r stays. Refused: the paper's number, and both stay.
 unfoldable pub AskSays : Shape → List ℕ → List ℕ → ℕ → List ℕ → List ℕ → Verdict → List ℕ → List ℕ → Type 0
 AskSays s labels entries set r z Open r′ z′ =
-    (askRefusal s labels entries set (length r) (length z) ≡ 0) × Set.OpeningVector s labels entries set (place r′) × (length r′ ≡ s .d) ×
-    (z′ ≡ z)
+    (askRefusal s labels entries set (length r) (length z) ≡ 0) × Set.OpeningVector s labels entries set (place r′) × (length r′ ≡ s .d)
+    × (z′ ≡ z)
 AskSays s labels entries set r z Closed r′ z′ =
-    (askRefusal s labels entries set (length r) (length z) ≡ 0) × Set.Witness s labels entries set (place z′) × (length z′ ≡ s .e) ×
-    (r′ ≡ r)
+    (askRefusal s labels entries set (length r) (length z) ≡ 0) × Set.Witness s labels entries set (place z′) × (length z′ ≡ s .e)
+    × (r′ ≡ r)
 AskSays s labels entries set r z (Refused k) r′ z′ =
     (askRefusal s labels entries set (length r) (length z) ≡ k) × (0 < k) × (r′ ≡ r) × (z′ ≡ z)

@@ -27,8 +27,7 @@ contentRefusal p n labels entries =
     (unless (eachBelow p entries) 7)
 
 -- Every call on a scheme: 1 to 4; then 5, "a lent list has not exactly the length needed", where `lengths` says of the call's own lists
--- that
--- they have theirs; then 6 and 7; then what the call refuses after that.
+-- that they have theirs; then 6 and 7; then what the call refuses after that.
 unfoldable pub refusalOf : Shape → List ℕ → List ℕ → Bool → ℕ → ℕ
 refusalOf s labels entries lengths more =
     orElse (numbersRefusal s)

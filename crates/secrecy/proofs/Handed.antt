@@ -1,8 +1,6 @@
 -- Demand 3 about what the set question hands out. `shown`: on each scheme and each set of its participants the call hands out the vector
--- that
--- gives the code back from every dealing, or the witness that pairs all random lists for one code with all for another, one to one, with
--- the
--- same cards in each pair. `only-one`: no set has both. `no-row`: a set without rows is closed with the target as witness.
+-- that gives the code back from every dealing, or the witness that pairs all random lists for one code with all for another, one to one,
+-- with the same cards in each pair. `only-one`: no set has both. `no-row`: a set without rows is closed with the target as witness.
 -- Assumes nothing.
 use mathlib.Core.Path.{_≡_, refl, sym, ap, ap₂, _∙_, subst}
 use mathlib.Core.Bool.{Bool, false}
@@ -103,8 +101,7 @@ module _ (s : Shape) (labels entries : List ℕ) (set : ℕ) where
       (none-chosen (s .p) (v .prime) (s .d) (s .e - 1) E chosen none .0))
 
 -- Demand 3: for each scheme and each set of its participants the set question is not refused and hands out exactly one of the two, the
--- vector
--- that gives the code back or the witness that pairs the random lists.
+-- vector that gives the code back or the witness that pairs the random lists.
 module _ (s : Shape) (labels entries : List ℕ) (set : ℕ) (h : IsScheme s labels entries) (l : set < 2 ^ s .n) (r z : List ℕ)
     (nr : length r ≡ s .d) (nz : length z ≡ s .e) where
   not-refused : askRefusal s labels entries set (length r) (length z) ≡ 0
