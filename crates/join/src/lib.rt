@@ -84,7 +84,8 @@ fn turn(d: usize, e: usize, chosen: u32, entries: &[u32], a: &mut [u32])
 fn column(d: usize, e: usize, j: usize, chosen: u32, entries: &[u32], a: &mut [u32])
     requires { ⌜ (d ≤ 32) × (e ≤ 12) × (j < e) × (length (now entries) ≡ d * e) × (length (now a) ≡ e * d) ⌝ }
     ensures same { λ _. ⌜ length (now (a .exit)) ≡ length (now (a .entry)) ⌝ }
-    ensures here { λ _. ⌜ ((k : ℕ) → k < d → place (now (a .exit)) (j * d + k) ≡ cond (bit chosen k) (entry e (now (entries .entry)) k j) 0) ⌝ }
+    ensures here { λ _. ⌜ ((k : ℕ) → k < d → place (now (a .exit)) (j * d + k)
+        ≡ cond (bit chosen k) (entry e (now (entries .entry)) k j) 0) ⌝ }
     ensures before { λ _. ⌜ ((i : ℕ) → i < j * d → place (now (a .exit)) i ≡ place (now (a .entry)) i) ⌝ }
 {
     let at = j * d;
@@ -228,8 +229,8 @@ fn join_rows(p: u32, d: usize, e: usize, chosen: u32, entries: &[u32], shares: &
     join_in(p, d, e, chosen, entries, shares, &mut r[0..d], &mut z[0..e])
 }
 
-// Joins a set's shares. Wrong answers that the contract rules out: a number for shares that no dealing gives; 12 for a closed set; a sum that
-// takes in a share outside the set's rows.
+// Joins a set's shares. Wrong answers that the contract rules out: a number for shares that no dealing gives; 12 for a closed set; a sum
+// that takes in a share outside the set's rows.
 pub fn join(s: Shape, labels: &[u32], entries: &[u32], set: u32, shares: &[u32]) -> Joined
     ensures { λ a. ⌜ JoinSays s (now (labels .entry)) (now (entries .entry)) set (now (shares .entry)) a ⌝ }
 {

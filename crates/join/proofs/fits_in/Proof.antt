@@ -16,7 +16,8 @@ mask-requires c κs =
 
 find-requires : tie.Need-find-requires
 find-requires c κs =
-    let p = c .before .before .before .before .before .before .before .before .before .before .before .before .before .before .before .before .before .before .before .before .before .before .pre in
+    let p = c .before .before .before .before .before .before .before .before .before .before .before .before .before .before
+    .before .before .before .before .before .before .before .before .pre in
     let q = p .1 in
     let t = c .before .before .before .before .before .before .before .before .before .before .before .before .turn .ensures .0 in (
       p .0,
@@ -32,12 +33,16 @@ find-requires c κs =
     )
 
 same-length : tie.Need-same-length
-same-length c = c .before .before .before .before .before .before .before .before .before .before .before .before .before .before .before .before .before .before .before .before .before .turn .ensures .0
+same-length c = c .before .before .before .before .before .before .before .before .before .before .before .before .before .before
+    .before .before .before .before .before .before .before .turn .ensures .0
 
 same-length-2 : tie.Need-same-length-2
 same-length-2 c =
-    let q = c .before .before .before .before .before .before .before .before .before .before .before .before .before .before .before .before .before .before .before .before .before .before .before .before .before .before .before .before .before .before .before .pre .1 in
-    c .before .before .before .before .before .before .before .before .before .before .before .before .before .before .before .before .before .mask .ensures .len ∙ q .3 ∙ sym (q .5)
+    let q = c .before .before .before .before .before .before .before .before .before .before .before .before .before .before
+    .before .before .before .before .before .before .before .before .before .before .before .before .before .before .before
+    .before .before .pre .1 in
+    c .before .before .before .before .before .before .before .before .before .before .before .before .before .before .before
+    .before .before .mask .ensures .len ∙ q .3 ∙ sym (q .5)
 
 same-length-3 : tie.Need-same-length-3
 same-length-3 c = c .before .before .before .before .before .before .before .before .find .ensures .1 .0
@@ -53,9 +58,14 @@ same-length-6 c = c .before .before .before .before .before .before .before .bef
 
 returns : tie.Need-returns
 returns c =
-    let q = c .before .before .before .before .before .before .before .before .before .before .before .before .before .before .before .before .before .before .before .before .before .before .before .before .before .before .before .before .before .before .before .pre .1 in
+    let q = c .before .before .before .before .before .before .before .before .before .before .before .before .before .before
+    .before .before .before .before .before .before .before .before .before .before .before .before .before .before .before
+    .before .before .pre .1 in
     fits-says _ _ _ _ _ _ _ _
-    (c .before .before .before .before .before .before .before .before .before .before .before .before .before .before .before .before .before .before .before .before .before .turn .ensures .1) (masked-at _ _ _ _ _ (q .3) (c .before .before .before .before .before .before .before .before .before .before .before .before .before .before .before .before .before .mask .ensures)) _ _ (c .before .before .before .before .before .before .before .before .find .ensures .0)
+    (c .before .before .before .before .before .before .before .before .before .before .before .before .before .before .before
+    .before .before .before .before .before .before .turn .ensures .1) (masked-at _ _ _ _ _ (q .3) (c .before .before .before
+    .before .before .before .before .before .before .before .before .before .before .before .before .before
+    .before .mask .ensures)) _ _ (c .before .before .before .before .before .before .before .before .find .ensures .0)
 
 pub fits-in-spec : {M : Type 1} → statement M
 fits-in-spec =

@@ -46,7 +46,8 @@ returns-2 c =
 
 weighted-requires : tie.Need-weighted-requires
 weighted-requires c κs =
-    let p = c .before .before .before .before .before .before .before .before .before .before .before .before .before .before .before .pre in (
+    let p = c .before .before .before .before .before .before .before .before .before .before .before .before .before .before
+    .before .pre in (
       omega (arith, p .0 .two),
       c .before .before .before .before .before .before .before .before .ask .ensures .if-open
           (not-false _ (c .before .before .before .if1 .left)) .1 ∙ sym (p .1 .0 .5),
@@ -60,7 +61,8 @@ same-length-6 c = search needs
 
 returns-3 : tie.Need-returns-3
 returns-3 c =
-    let p = c .before .before .before .before .before .before .before .before .before .before .before .before .before .before .before .before .pre in
+    let p = c .before .before .before .before .before .before .before .before .before .before .before .before .before .before
+    .before .before .pre in
     rows-code _ (p .0) _ _ (p .1 .0 .2) _ _ _ _ _ _ _ _
     (c .before .before .before .before .before .before .before .before .before .ask .ensures)
     (c .before .before .before .before .if1 .left)

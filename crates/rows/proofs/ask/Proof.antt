@@ -81,7 +81,8 @@ settle-requires c κs =
 
 store-requires : tie.Need-store-requires Inv-loop μ-loop
 store-requires c κs =
-    let s = c .before .before .before .before .before .before .before .before .before .before .before .before .before .before .before .before in
+    let s = c .before .before .before .before .before .before .before .before .before .before .before .before .before .before
+    .before .before in
     let l = c .before .before .before .before .before .before .before .before .before .before .loop in
     let g = l .inv .1 in
     λ h. store-room (s .args .p) (s .args .e) (s .args .e - 1) (s .args .d) (s .args .entries .now) (bit (s .args .chosen)) (omega arith)
@@ -96,7 +97,8 @@ loop-less c = search needs
 
 loop-again : tie.Need-loop-again Inv-loop μ-loop
 loop-again c =
-    let s = c .before .before .before .before .before .before .before .before .before .before .before .before .before .before .before .before .before in
+    let s = c .before .before .before .before .before .before .before .before .before .before .before .before .before .before
+    .before .before .before in
     let l = c .before .before .before .before .before .before .before .before .before .before .before .loop in
     let g = l .inv .1 in (
       omega arith,
