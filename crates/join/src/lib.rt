@@ -1,7 +1,7 @@
 // Joining: from a set's shares the code, where the set is open and some dealing gives the shares.
 use scheme::Shape;
 ghost use mathlib.Core.Path.{_≡_};
-ghost use mathlib.Core.Bool.{true, false, cond};
+ghost use mathlib.Core.Bool.{cond};
 ghost use Prim.Native.Nat.{ℕ, _<_, _≤_, _+_, _*_, _%_};
 ghost use lib.ListN.{length, getD};
 ghost use Rattle.residue.specs.Prime.{Prime};
@@ -11,7 +11,7 @@ ghost use Rattle.rows.specs.Chosen.{bit};
 ghost use Rattle.scheme.specs.Sets.{ofSet};
 ghost use Rattle.scheme.specs.Refusal.{readBelow, joinRefusal};
 ghost use Rattle.join.specs.Says.{JoinSays};
-ghost use Rattle.join.specs.Steps.{Turned, MaskedTo, FitsRows, FitsSays, RowsSay};
+ghost use Rattle.join.specs.Steps.{Turned, MaskedTo, FitsSays, RowsSay};
 
 // The code, or a refusal with the paper's number.
 pub enum Joined {
@@ -28,7 +28,7 @@ fn read_below(p: u32, set: u32, labels: &[u32], shares: &[u32]) -> bool
     let mut k = 0;
     while k < labels.len() {
         let i = labels[k];
-        if scheme::in_set(set, i) {
+        if sets::in_set(set, i) {
             if shares[k] >= p {
                 return false;
             }
@@ -46,7 +46,7 @@ fn join_refusal(s: Shape, labels: &[u32], entries: &[u32], set: u32, shares: &[u
     if bad != 0 {
         return bad;
     }
-    let outside = scheme::set_refusal(s.n, set);
+    let outside = sets::set_refusal(s.n, set);
     if outside != 0 {
         return outside;
     }
@@ -164,8 +164,7 @@ fn line() -> [u32; 32]
 fn fits(p: u32, d: usize, e: usize, chosen: u32, entries: &[u32], shares: &[u32]) -> bool
     requires { ⌜ Prime p ⌝ }
     requires { ⌜ (1 ≤ d) × (d ≤ 32) × (1 ≤ e) × (e ≤ 12) × (length (now entries) ≡ d * e) × (length (now shares) ≡ d) ⌝ }
-    ensures yes { λ r. ⌜ (r ≡ true → FitsRows p d e (entry e (now (entries .entry))) (bit chosen) (place (now (shares .entry)))) ⌝ }
-    ensures no { λ r. ⌜ (r ≡ false → FitsRows p d e (entry e (now (entries .entry))) (bit chosen) (place (now (shares .entry))) → ⊥) ⌝ }
+    ensures { λ r. ⌜ FitsSays p d e chosen (now (entries .entry)) (now (shares .entry)) r ⌝ }
 {
     let n = e * d;
     let mut columns = table();
@@ -238,6 +237,6 @@ pub fn join(s: Shape, labels: &[u32], entries: &[u32], set: u32, shares: &[u32])
     if bad != 0 {
         return Joined::Refused(bad);
     }
-    let chosen = ask::chosen_rows(set, labels);
+    let chosen = sets::chosen_rows(set, labels);
     join_rows(s.p, s.d, s.e, chosen, entries, shares)
 }

@@ -2,10 +2,8 @@
 ghost use mathlib.Core.Path.{_≡_};
 ghost use mathlib.Core.Bool.{_&&_};
 ghost use lib.Dec.{eqb};
-ghost use Prim.Native.Nat.{_≤_};
 ghost use Rattle.scheme.specs.Tests.{within, each, eachBelow};
-ghost use Rattle.scheme.specs.Sets.{inSet};
-ghost use Rattle.scheme.specs.Refusal.{numbersRefusal, contentRefusal, refusalOf, checkRefusal, setRefusal};
+ghost use Rattle.scheme.specs.Refusal.{numbersRefusal, contentRefusal, refusalOf, checkRefusal};
 ghost use Rattle.scheme.specs.Outcome.{outcomeAt};
 
 // The four numbers of a scheme: the modulus, the participants, the rows, the columns.
@@ -119,25 +117,6 @@ pub fn both_same(a: usize, b: usize, c: usize, d: usize) -> bool
         return c == d;
     }
     false
-}
-
-// Refusal 8 for a set number with a bit from n up.
-pub fn set_refusal(n: u32, set: u32) -> u32
-    requires { ⌜ n ≤ 16 ⌝ }
-    ensures { λ r. ⌜ r ≡ setRefusal n set ⌝ }
-{
-    if set >> n == 0 {
-        return 0;
-    }
-    8
-}
-
-// Whether participant i is in the set.
-pub fn in_set(set: u32, i: u32) -> bool
-    requires { ⌜ (1 ≤ i) × (i ≤ 16) ⌝ }
-    ensures { λ r. ⌜ r ≡ inSet set i ⌝ }
-{
-    (set >> (i - 1)) % 2 == 1
 }
 
 // Checks a scheme. Wrong answers that the contract rules out: done for a modulus that is not in the table; 6 where an entry is not below p

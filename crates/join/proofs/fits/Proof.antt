@@ -111,7 +111,7 @@ fits-in-requires c κs =
     )
 
 returns : tie.Need-returns
-returns c = let f = c .before .before .before .before .before .before .fits-in .ensures in (f .yes, f .no)
+returns c = c .before .before .before .before .before .before .fits-in .ensures
 
 pub fits-spec : {M : Type 1} → statement M
 fits-spec =

@@ -42,7 +42,7 @@ returns-2 c =
     let p = c .before .before .before .before .before .before .before .before .before .before .before .before .before .before .pre in
     rows-wrong _ (p .0) _ _ (p .1 .0 .2) _ _ _ _ _ _ _ _ (c .before .before .before .before .before .before .before .ask .ensures)
     (c .before .before .if1 .left)
-    (c .before .fits2 .ensures .1 (not-true _ (c .if2 .taken)))
+    (c .before .fits2 .ensures .no (not-true _ (c .if2 .taken)))
 
 weighted-requires : tie.Need-weighted-requires
 weighted-requires c κs =
@@ -66,7 +66,7 @@ returns-3 c =
     rows-code _ (p .0) _ _ (p .1 .0 .2) _ _ _ _ _ _ _ _
     (c .before .before .before .before .before .before .before .before .before .ask .ensures)
     (c .before .before .before .before .if1 .left)
-    (c .before .before .before .fits2 .ensures .0 (not-false _ (c .before .before .if2 .left))) _ _ (p .1 .0 .5) (c .weighted .ensures)
+    (c .before .before .before .fits2 .ensures .yes (not-false _ (c .before .before .if2 .left))) _ _ (p .1 .0 .5) (c .weighted .ensures)
 
 pub join-in-spec : {M : Type 1} → statement M
 join-in-spec =

@@ -1,13 +1,13 @@
--- `ask::chosen_rows` meets its contract: the number is built from the last row to the first (`Built` of proofs/Mask.antt).
+-- `sets::chosen_rows` meets its contract: the number is built from the last row to the first (`Built` of proofs/Mask.antt).
 -- Assumes nothing.
 use Prim.Native.Nat.{_-_}
 use native.Mathlib.Omega.{arith}
 use lib.ListN.{length}
 use borrow.Author.Needs.{needs}
 use Rattle.scheme.specs.Sets.{ofSet}
-use Rattle.ask.proofs.Mask.{Built, built-start, built-fits, built-turn, built-end, built-small, one-small}
-use Rattle.ask.proofs.chosen_rows.Statement.{statement}
-use Rattle.ask.proofs.chosen_rows.Tie as tie
+use Rattle.sets.proofs.Mask.{Built, built-start, built-fits, built-turn, built-end, built-small, one-small}
+use Rattle.sets.proofs.chosen_rows.Statement.{statement}
+use Rattle.sets.proofs.chosen_rows.Tie as tie
 
 abbrev Inv-loop : tie.InvT-loop
 Inv-loop set labels chosen₀ k₀ chosen k = Built (ofSet set labels) (length labels) k chosen

@@ -1,9 +1,9 @@
--- `scheme::set_refusal` meets its contract: a set number has no bit from n up where dividing it by 2 ^ n leaves 0.
+-- `sets::set_refusal` meets its contract: a set number has no bit from n up where dividing it by 2 ^ n leaves 0.
 -- Assumes nothing.
 use native.Mathlib.Omega.{arith}
 use Rattle.scheme.proofs.Refusals.{set-right, set-wrong}
-use Rattle.scheme.proofs.set_refusal.Statement.{statement}
-use Rattle.scheme.proofs.set_refusal.Tie as tie
+use Rattle.sets.proofs.set_refusal.Statement.{statement}
+use Rattle.sets.proofs.set_refusal.Tie as tie
 
 shr-if1 : tie.Need-shr-if1
 shr-if1 c = omega arith

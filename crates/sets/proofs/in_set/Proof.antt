@@ -1,9 +1,9 @@
--- `scheme::in_set` meets its contract: a shift by i - 1 is a division by 2 ^ (i - 1).
+-- `sets::in_set` meets its contract: a shift by i - 1 is a division by 2 ^ (i - 1).
 -- Assumes nothing.
 use native.Mathlib.Omega.{arith}
 use mathlib.Core.Path.{refl}
-use Rattle.scheme.proofs.in_set.Statement.{statement}
-use Rattle.scheme.proofs.in_set.Tie as tie
+use Rattle.sets.proofs.in_set.Statement.{statement}
+use Rattle.sets.proofs.in_set.Tie as tie
 
 sub-result : tie.Need-sub-result
 sub-result c = omega arith
