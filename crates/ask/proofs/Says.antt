@@ -14,7 +14,7 @@ use Rattle.linear.specs.Rows as Rows
 use Rattle.linear.proofs.Rows.{open-not-closed, opening-open, witness-closed, opening-unique, witness-unique, opening-same, witness-same}
 use Rattle.rows.specs.declared.Answer.{Answer}
 use Rattle.rows.specs.Answered.{Answered}
-use Rattle.rows.specs.Chosen.{bit}
+use Rattle.linear.specs.Bits.{bit}
 use Rattle.scheme.specs.declared.Shape.{Shape}
 use Rattle.scheme.specs.Open as Set
 use Rattle.scheme.specs.Sets.{ofSet}

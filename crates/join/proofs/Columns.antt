@@ -15,7 +15,7 @@ use Rattle.linear.specs.Flat.{place, entry}
 use Rattle.linear.proofs.Carry.{total-cong}
 use Rattle.linear.proofs.Masked.{total-zero}
 use Rattle.combination.specs.Found.{Found}
-use Rattle.rows.specs.Chosen.{bit}
+use Rattle.linear.specs.Bits.{bit}
 use Rattle.join.specs.Steps.{Turned, MaskedTo, FitsSays}
 
 -- The first j columns are in their places.

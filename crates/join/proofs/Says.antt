@@ -16,7 +16,7 @@ use Rattle.linear.specs.Flat.{place, entry}
 use Rattle.linear.specs.Rows as Rows
 use Rattle.linear.proofs.Rows.{opening-open, witness-closed}
 use Rattle.rows.specs.declared.Answer.{Answer}
-use Rattle.rows.specs.Chosen.{bit}
+use Rattle.linear.specs.Bits.{bit}
 use Rattle.rows.specs.Answered.{Answered}
 use Rattle.scheme.specs.declared.Shape.{Shape}
 use Rattle.scheme.specs.Sets.{ofSet}

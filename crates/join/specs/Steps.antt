@@ -9,7 +9,7 @@ use lib.ListN.{length}
 use Rattle.linear.specs.Combination.{total}
 use Rattle.linear.specs.Flat.{place, entry}
 use Rattle.linear.specs.Rows.{Open, Closed, OpeningVector}
-use Rattle.rows.specs.Chosen.{bit}
+use Rattle.linear.specs.Bits.{bit}
 use Rattle.join.specs.declared.Joined.{Joined}
 use Rattle.join.specs.declared.Joined.the-variants.{Code, Refused}
 

@@ -7,7 +7,7 @@ ghost use lib.ListN.{length, getD};
 ghost use Rattle.residue.specs.Prime.{Prime};
 ghost use Rattle.linear.specs.Combination.{total};
 ghost use Rattle.linear.specs.Flat.{place, entry};
-ghost use Rattle.rows.specs.Chosen.{bit};
+ghost use Rattle.linear.specs.Bits.{bit};
 ghost use Rattle.scheme.specs.Sets.{ofSet};
 ghost use Rattle.scheme.specs.Refusal.{readBelow, joinRefusal};
 ghost use Rattle.join.specs.Says.{JoinSays};

@@ -3,9 +3,12 @@
 -- Assumes nothing.
 use mathlib.Core.Path.{_≡_}
 use mathlib.Core.Bool.{Bool, true, false, cond}
+use mathlib.Core.List.{List}
 use mathlib.Core.Logic.{_↔_}
 use Prim.Native.Nat.{ℕ, zero, suc, _<_, _-_, _*_, _%_}
+use lib.ListN.{length}
 use Rattle.linear.specs.Combination.{total, count, AddUpTo, CombinationOf, KeptRule}
+use Rattle.linear.specs.Flat.{place}
 
 -- "the list of length e with 1 first and 0 after"
 abbrev pub target : ℕ → ℕ
@@ -51,3 +54,9 @@ module _ (p d e : ℕ) (E : ℕ → ℕ → ℕ) (chosen : ℕ → Bool) where
     pub kept : ℕ → Bool
     pub rule : KeptRows kept
     pub number : count d kept ≡ s
+
+  -- What is handed out: where the chosen rows are open, r′ is the opening vector and z stays; where they are closed, z′ is the witness and
+  -- r stays. r and z are the lent lists before the call, r′ and z′ after it.
+  abbrev pub Handed : List ℕ → List ℕ → Bool → List ℕ → List ℕ → Type 0
+  Handed r z true r′ z′ = OpeningVector (place r′) × (length r′ ≡ d) × (z′ ≡ z)
+  Handed r z false r′ z′ = Witness (place z′) × (length z′ ≡ e) × (r′ ≡ r)

@@ -11,7 +11,7 @@ use Rattle.linear.specs.Flat.{place, entry}
 use Rattle.linear.specs.Rows.{OpeningVector, Witness, Rank}
 use Rattle.lines.specs.Line.{at}
 use Rattle.backward.specs.Solution.{Killed}
-use Rattle.rows.specs.Chosen.{bit}
+use Rattle.linear.specs.Bits.{bit}
 use Rattle.rows.specs.Answered.{Answered}
 use Rattle.rows.specs.State.{State, Going, Next}
 use Rattle.rows.proofs.Turns.{made-chosen, witness-end, rank-end}

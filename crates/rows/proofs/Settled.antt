@@ -10,7 +10,7 @@ use Rattle.residue.specs.Prime.{Prime}
 use Rattle.linear.specs.Flat.{place, entry}
 use Rattle.linear.proofs.Rows.{open-not-closed, opening-unique, witness-unique, rank-unique}
 use Rattle.rows.specs.declared.Answer.{Answer}
-use Rattle.rows.specs.Chosen.{bit}
+use Rattle.linear.specs.Bits.{bit}
 use Rattle.rows.specs.Answered.{Answered}
 
 module _ (p d f chosen : ℕ) (entries r z : List ℕ) (H : Prime p) where

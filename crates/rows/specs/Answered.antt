@@ -9,7 +9,7 @@ use lib.ListN.{length}
 use Rattle.linear.specs.Flat.{place, entry}
 use Rattle.linear.specs.Rows.{OpeningVector, Witness, Rank}
 use Rattle.rows.specs.declared.Answer.{Answer}
-use Rattle.rows.specs.Chosen.{bit}
+use Rattle.linear.specs.Bits.{bit}
 
 -- r and z are the lent lists before the call, r′ and z′ after it.
 pub record Answered (p d e chosen : ℕ) (entries r z : List ℕ) (a : Answer) (r′ z′ : List ℕ) : Type 0 where

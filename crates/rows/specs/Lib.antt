@@ -1,3 +1,2 @@
-pub mod Chosen
 pub mod Answered
 pub mod State

@@ -9,7 +9,7 @@ ghost use lib.ListN.{length, getD, set};
 ghost use Rattle.residue.specs.Prime.{Prime};
 ghost use Rattle.lines.specs.Line.{Low, Lows, Ratio, Pivots, at};
 ghost use Rattle.backward.specs.Solution.{Opened};
-ghost use Rattle.rows.specs.Chosen.{bit};
+ghost use Rattle.linear.specs.Bits.{bit};
 ghost use Rattle.rows.specs.Answered.{Answered};
 ghost use Rattle.rows.specs.State.{rowAt, Next};
 

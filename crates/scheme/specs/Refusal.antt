@@ -8,6 +8,7 @@ use Prim.Native.Nat.{ℕ, _+_, _*_, _^_}
 use lib.Dec.{eqb, ltb}
 use lib.ListN.{length}
 use Rattle.residue.specs.Moduli.{isModulus}
+use Rattle.linear.specs.Product.{pairs}
 use Rattle.scheme.specs.declared.Shape.{Shape}
 use Rattle.scheme.specs.Sets.{inSet}
 use Rattle.scheme.specs.Tests.{within, each, eachBelow, unless, orElse}
@@ -69,3 +70,11 @@ abbrev pub joinRefusal : Shape → List ℕ → List ℕ → ℕ → List ℕ �
 joinRefusal s labels entries set shares =
     refusalOf s labels entries (eqb (length shares) (s .d))
     (orElse (setRefusal (s .n) set) (unless (readBelow (s .p) set labels shares) 9))
+
+-- The product verdict: d places for r, e(e + 1)/2 for w.
+abbrev pub productRefusal : Shape → List ℕ → List ℕ → ℕ → ℕ → ℕ
+productRefusal s labels entries rplaces wplaces = refusalOf s labels entries (eqb rplaces (s .d) && eqb wplaces (pairs (s .e))) 0
+
+-- The threshold verdict; 10: "t not below n".
+abbrev pub thresholdRefusal : Shape → List ℕ → List ℕ → ℕ → ℕ
+thresholdRefusal s labels entries t = refusalOf s labels entries true (unless (ltb t (s .n)) 10)

@@ -7,7 +7,7 @@ use native.Mathlib.Nat.{div-div-eq-div-mul, pow-succ', two-pow-succ}
 use native.Mathlib.Omega.{arith}
 use lib.Dec.{eqb}
 use lib.Pow.{pow-mono}
-use Rattle.rows.specs.Chosen.{bit}
+use Rattle.linear.specs.Bits.{bit}
 
 -- One or none.
 abbrev pub one : Bool → ℕ

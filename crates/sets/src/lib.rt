@@ -3,7 +3,7 @@ ghost use mathlib.Core.Path.{_≡_};
 ghost use mathlib.Core.Bool.{cond};
 ghost use Prim.Native.Nat.{ℕ, _<_, _≤_, _^_};
 ghost use lib.ListN.{length, getD};
-ghost use Rattle.rows.specs.Chosen.{bit};
+ghost use Rattle.linear.specs.Bits.{bit};
 ghost use Rattle.scheme.specs.Sets.{inSet, ofSet};
 ghost use Rattle.scheme.specs.Refusal.{setRefusal};
 

@@ -7,7 +7,7 @@ use native.Mathlib.Omega.{arith}
 use Rattle.lists.proofs.Store.{row-fits}
 use Rattle.lists.proofs.Fill.{Filled, fill-start, fill-turn}
 use Rattle.linear.specs.Flat.{entry}
-use Rattle.rows.specs.Chosen.{bit}
+use Rattle.linear.specs.Bits.{bit}
 use Rattle.join.proofs.column.Statement.{statement}
 use Rattle.join.proofs.column.Tie as tie
 

@@ -7,7 +7,7 @@ use native.Mathlib.Omega.{arith}
 use lib.ListN.{length}
 use Rattle.lists.proofs.Fill.{Filled, fill-start, fill-turn, filled}
 use Rattle.linear.specs.Flat.{place}
-use Rattle.rows.specs.Chosen.{bit}
+use Rattle.linear.specs.Bits.{bit}
 use Rattle.join.proofs.mask.Statement.{statement}
 use Rattle.join.proofs.mask.Tie as tie
 

@@ -3,7 +3,7 @@
 use mathlib.Core.Path.{_∙_}
 use Prim.Native.Nat.{_-_}
 use native.Mathlib.Omega.{arith}
-use Rattle.rows.specs.Chosen.{bit}
+use Rattle.linear.specs.Bits.{bit}
 use Rattle.join.proofs.Columns.{Turning, turning-start, turning-turn, turning-end}
 use Rattle.join.proofs.turn.Statement.{statement}
 use Rattle.join.proofs.turn.Tie as tie

@@ -7,7 +7,7 @@ use native.Mathlib.Omega.{arith}
 use lib.ListN.{length, getD}
 use borrow.Author.Needs.{needs}
 use Rattle.rows.specs.State.{Going}
-use Rattle.rows.specs.Chosen.{bit}
+use Rattle.linear.specs.Bits.{bit}
 use Rattle.linear.specs.Flat.{entry}
 use Rattle.lists.proofs.Store.{row-fits}
 use Rattle.rows.proofs.Ends.{going-length, sources, next-inverse, answered-open, answered-closed}
