@@ -1,17 +1,16 @@
 -- What `ask` answers, from what the question of the chosen rows answers; and that it settles the outcome.
 -- Assumes nothing.
 use mathlib.Core.Path.{_≡_, refl, sym, ap, ap₂, _∙_, subst}
-use mathlib.Core.Bool.{Bool, true, false, _&&_}
+use mathlib.Core.Bool.{Bool, true, false, _&&_, true≢false, false≢true}
 use mathlib.Core.List.{List}
-use Prim.Native.Nat.{ℕ, suc, _<_, _≤_, _-_, _^_}
+use Prim.Native.Nat.{ℕ, _<_, _≤_, _^_}
 use native.Mathlib.Omega.{arith}
 use lib.Dec.{eqb}
 use lib.ListN.{length, getD}
-use lib.Seq.{ext-getD}
 use borrow.Author.Tests.{eqb-true, eq-eqb, lt-ltb}
 use Rattle.linear.specs.Flat.{place, entry}
 use Rattle.linear.specs.Rows as Rows
-use Rattle.linear.proofs.Rows.{open-not-closed, opening-open, witness-closed, opening-unique, witness-unique, opening-same, witness-same}
+use Rattle.linear.proofs.Handed.{handed-settled, handed-same, opening-opens, witness-closes}
 use Rattle.rows.specs.declared.Answer.{Answer}
 use Rattle.rows.specs.Answered.{Answered}
 use Rattle.linear.specs.Bits.{bit}
@@ -56,15 +55,18 @@ labels-right s labels entries v = (
 module _ (s : Shape) (labels entries : List ℕ) (set : ℕ) (r z r′ z′ : List ℕ) (a : Answer) (chosen : ℕ)
     (h : askRefusal s labels entries set (length r) (length z) ≡ 0) (same : (k : ℕ) → k < s .d → bit chosen k ≡ ofSet set labels k)
     (an : Answered (s .p) (s .d) (s .e) chosen entries r z a r′ z′) where
+  handed : (o : Bool) → a .opens ≡ o → Set.Handed s labels entries set r z o r′ z′
+  handed o q = handed-same (s .p) (s .d) (s .e) (entry (s .e) entries) (entry (s .e) entries) (bit chosen) (ofSet set labels)
+      (λ k j lk lj. refl) same r z o r′ z′
+      (subst (λ (o : Bool). Rows.Handed (s .p) (s .d) (s .e) (entry (s .e) entries) (bit chosen) r z o r′ z′) q (an .handed))
+
   pub says-open : a .opens ≡ true → AskSays s labels entries set r z Open r′ z′
   unfolding AskSays
-  says-open q = let w = an .if-open q in
-      (h, opening-same (s .p) (s .d) (s .e) (entry (s .e) entries) (bit chosen) (ofSet set labels) same (place r′) (w .0), w .1, w .2)
+  says-open q = (h, handed true q)
 
   pub says-closed : a .opens ≡ false → AskSays s labels entries set r z Closed r′ z′
   unfolding AskSays
-  says-closed q = let w = an .if-closed q in
-      (h, witness-same (s .p) (s .d) (s .e) (entry (s .e) entries) (bit chosen) (ofSet set labels) same (place z′) (w .0), w .1, w .2)
+  says-closed q = (h, handed false q)
 
 -- On a scheme, with a set of its participants and lists of their lengths, the call is not refused.
 pub ask-answers : (s : Shape) (labels entries : List ℕ) (set : ℕ) → IsScheme s labels entries → set < 2 ^ s .n
@@ -81,38 +83,23 @@ module _ (s : Shape) (labels entries : List ℕ) (set : ℕ) (r z : List ℕ) wh
   abbrev chosen : ℕ → Bool
   chosen = ofSet set labels
 
-  -- A valid scheme has a first column.
-  columns : (h : Valid s labels entries) → s .e ≡ suc (s .e - 1)
-  columns h = omega (arith, h .e-low)
+  -- A call that is not refused.
+  abbrev Free : Type 0
+  Free = askRefusal s labels entries set (length r) (length z) ≡ 0
+
+  same : Free → (a b : Bool) (r₁ z₁ r₂ z₂ : List ℕ) → Set.Handed s labels entries set r z a r₁ z₁
+      → Set.Handed s labels entries set r z b r₂ z₂ → (a ≡ b) × (r₁ ≡ r₂) × (z₁ ≡ z₂)
+  same h = let v = ask-valid s labels entries set (length r) (length z) h in
+      handed-settled (s .p) (v .prime) (s .d) (s .e) (v .e-low) E chosen r z
 
   pub settled : (a b : Verdict) (r₁ z₁ r₂ z₂ : List ℕ) → AskSays s labels entries set r z a r₁ z₁ → AskSays s labels entries set r z b r₂ z₂
       → (a ≡ b) × (r₁ ≡ r₂) × (z₁ ≡ z₂)
   unfolding AskSays
-  settled Open Open r₁ z₁ r₂ z₂ x y = let v = ask-valid s labels entries set (length r) (length z) (x .0) in (
-    refl,
-    ext-getD 0 r₁ r₂ (x .2 ∙ sym (y .2)) (λ k l.
-        opening-unique (s .p) (v .prime) (s .d) (s .e - 1) E chosen (place r₁) (place r₂)
-        (subst (λ (e : ℕ). Rows.OpeningVector (s .p) (s .d) e E chosen (place r₁)) (columns v) (x .1))
-        (subst (λ (e : ℕ). Rows.OpeningVector (s .p) (s .d) e E chosen (place r₂)) (columns v) (y .1)) k (omega (arith, x .2))),
-    x .3 ∙ sym (y .3),
-  )
-  settled Open Closed r₁ z₁ r₂ z₂ x y = let v = ask-valid s labels entries set (length r) (length z) (x .0) in
-      absurd (open-not-closed (s .p) (v .prime) (s .d) (s .e - 1) E chosen (place r₁) (place z₂)
-      (subst (λ (e : ℕ). Rows.OpeningVector (s .p) (s .d) e E chosen (place r₁)) (columns v) (x .1))
-      (subst (λ (e : ℕ). Rows.Witness (s .p) (s .d) e E chosen (place z₂)) (columns v) (y .1)))
+  settled Open Open r₁ z₁ r₂ z₂ x y = let w = same (x .0) true true r₁ z₁ r₂ z₂ (x .1) (y .1) in (refl, w .1, w .2)
+  settled Open Closed r₁ z₁ r₂ z₂ x y = absurd (true≢false (same (x .0) true false r₁ z₁ r₂ z₂ (x .1) (y .1) .0))
   settled Open (Refused k) r₁ z₁ r₂ z₂ x y = absurd (omega (arith, x .0, y .0, y .1))
-  settled Closed Open r₁ z₁ r₂ z₂ x y = let v = ask-valid s labels entries set (length r) (length z) (x .0) in
-      absurd (open-not-closed (s .p) (v .prime) (s .d) (s .e - 1) E chosen (place r₂) (place z₁)
-      (subst (λ (e : ℕ). Rows.OpeningVector (s .p) (s .d) e E chosen (place r₂)) (columns v) (y .1))
-      (subst (λ (e : ℕ). Rows.Witness (s .p) (s .d) e E chosen (place z₁)) (columns v) (x .1)))
-  settled Closed Closed r₁ z₁ r₂ z₂ x y = let v = ask-valid s labels entries set (length r) (length z) (x .0) in (
-    refl,
-    x .3 ∙ sym (y .3),
-    ext-getD 0 z₁ z₂ (x .2 ∙ sym (y .2)) (λ k l.
-        witness-unique (s .p) (v .prime) (s .d) (s .e - 1) E chosen (place z₁) (place z₂)
-        (subst (λ (e : ℕ). Rows.Witness (s .p) (s .d) e E chosen (place z₁)) (columns v) (x .1))
-        (subst (λ (e : ℕ). Rows.Witness (s .p) (s .d) e E chosen (place z₂)) (columns v) (y .1)) k (omega (arith, x .2, columns v))),
-  )
+  settled Closed Open r₁ z₁ r₂ z₂ x y = absurd (false≢true (same (x .0) false true r₁ z₁ r₂ z₂ (x .1) (y .1) .0))
+  settled Closed Closed r₁ z₁ r₂ z₂ x y = let w = same (x .0) false false r₁ z₁ r₂ z₂ (x .1) (y .1) in (refl, w .1, w .2)
   settled Closed (Refused k) r₁ z₁ r₂ z₂ x y = absurd (omega (arith, x .0, y .0, y .1))
   settled (Refused j) Open r₁ z₁ r₂ z₂ x y = absurd (omega (arith, x .0, x .1, y .0))
   settled (Refused j) Closed r₁ z₁ r₂ z₂ x y = absurd (omega (arith, x .0, x .1, y .0))
@@ -122,13 +109,9 @@ module _ (s : Shape) (labels entries : List ℕ) (set : ℕ) (r z : List ℕ) wh
   pub says-is-open : (r₁ z₁ : List ℕ) → AskSays s labels entries set r z Open r₁ z₁ → Set.Open s labels entries set
   unfolding AskSays
   says-is-open r₁ z₁ x = let v = ask-valid s labels entries set (length r) (length z) (x .0) in
-      subst (λ (e : ℕ). Rows.Open (s .p) (s .d) e E chosen) (sym (columns v))
-      (opening-open (s .p) (v .prime) (s .d) (s .e - 1) E chosen (place r₁)
-      (subst (λ (e : ℕ). Rows.OpeningVector (s .p) (s .d) e E chosen (place r₁)) (columns v) (x .1)))
+      opening-opens (s .p) (v .prime) (s .d) (s .e) (v .e-low) E chosen (place r₁) (x .1 .0)
 
   pub says-is-closed : (r₁ z₁ : List ℕ) → AskSays s labels entries set r z Closed r₁ z₁ → Set.Closed s labels entries set
   unfolding AskSays
   says-is-closed r₁ z₁ x = let v = ask-valid s labels entries set (length r) (length z) (x .0) in
-      subst (λ (e : ℕ). Rows.Closed (s .p) (s .d) e E chosen) (sym (columns v))
-      (witness-closed (s .p) (v .prime) (s .d) (s .e - 1) E chosen (place z₁)
-      (subst (λ (e : ℕ). Rows.Witness (s .p) (s .d) e E chosen (place z₁)) (columns v) (x .1)))
+      witness-closes (s .p) (v .prime) (s .d) (s .e) (v .e-low) E chosen (place z₁) (x .1 .0)

@@ -1,6 +1,6 @@
 -- From the chosen rows to the set: what joining the rows answers is what joining the set's shares answers.
 -- Assumes nothing.
-use mathlib.Core.Path.{_≡_, refl, sym, ap, _∙_}
+use mathlib.Core.Path.{_≡_, refl, sym, ap, _∙_, subst}
 use mathlib.Core.Bool.{Bool, true, false, not}
 use mathlib.Core.List.{List}
 use mathlib.Core.Logic.{_⊎_, inl, inr, ⊎-elim}
@@ -14,7 +14,7 @@ use Rattle.residue.specs.Prime.{Prime}
 use Rattle.linear.specs.Combination.{total}
 use Rattle.linear.specs.Flat.{place, entry}
 use Rattle.linear.specs.Rows as Rows
-use Rattle.linear.proofs.Rows.{opening-open, witness-closed}
+use Rattle.linear.proofs.Handed.{opening-opens, witness-closes}
 use Rattle.rows.specs.declared.Answer.{Answer}
 use Rattle.linear.specs.Bits.{bit}
 use Rattle.rows.specs.Answered.{Answered}
@@ -32,35 +32,37 @@ use Rattle.join.proofs.Read.{read-at}
 use Rattle.linear.proofs.Rows.{opening-same}
 use Rattle.join.proofs.Same.{open-same, closed-same, fits-same}
 
--- The same with at least one column, without a name for the others.
-pub opening-opens : (p : ℕ) → Prime p → (d e : ℕ) → 1 ≤ e → (E : ℕ → ℕ → ℕ) (chosen : ℕ → Bool) (r : ℕ → ℕ)
-    → Rows.OpeningVector p d e E chosen r → Rows.Open p d e E chosen
-opening-opens p H d zero l = absurd (omega arith)
-opening-opens p H d (suc f) l = opening-open p H d f
+-- What is handed out, once the verdict is known.
+handed-at : (p d e chosen : ℕ) (entries r z : List ℕ) (a : Answer) (r′ z′ : List ℕ) → Answered p d e chosen entries r z a r′ z′ → (o : Bool)
+    → a .opens ≡ o → Rows.Handed p d e (entry e entries) (bit chosen) r z o r′ z′
+handed-at p d e chosen entries r z a r′ z′ w o q =
+    subst (λ (o : Bool). Rows.Handed p d e (entry e entries) (bit chosen) r z o r′ z′) q (w .handed)
 
-pub witness-closes : (p : ℕ) → Prime p → (d e : ℕ) → 1 ≤ e → (E : ℕ → ℕ → ℕ) (chosen : ℕ → Bool) (z : ℕ → ℕ)
-    → Rows.Witness p d e E chosen z → Rows.Closed p d e E chosen
-witness-closes p H d zero l = absurd (omega arith)
-witness-closes p H d (suc f) l = witness-closed p H d f
+pub opens-length : (p d e chosen : ℕ) (entries r z : List ℕ) (a : Answer) (r′ z′ : List ℕ) → Answered p d e chosen entries r z a r′ z′
+    → not (a .opens) ≡ false → length r′ ≡ d
+opens-length p d e chosen entries r z a r′ z′ w q = handed-at p d e chosen entries r z a r′ z′ w true (not-false (a .opens) q) .1
 
 -- The three ends of joining the chosen rows, from what the question of the rows answers.
 module _ (p : ℕ) (H : Prime p) (d e : ℕ) (le : 1 ≤ e) (chosen : ℕ) (entries shares r z : List ℕ) (a : Answer) (r′ z′ : List ℕ)
     (w : Answered p d e chosen entries r z a r′ z′) where
+  handed : (o : Bool) → a .opens ≡ o → Rows.Handed p d e (entry e entries) (bit chosen) r z o r′ z′
+  handed o q = handed-at p d e chosen entries r z a r′ z′ w o q
+
   pub rows-closed : not (a .opens) ≡ true → RowsSay p d e chosen entries shares (Refused 11)
   unfolding RowsSay
-  rows-closed q = inl (refl, witness-closes p H d e le (entry e entries) (bit chosen) (place z′) (w .if-closed (not-true (a .opens) q) .0))
+  rows-closed q = inl (refl, witness-closes p H d e le (entry e entries) (bit chosen) (place z′) (handed false (not-true (a .opens) q) .0))
 
   pub rows-wrong : not (a .opens) ≡ false → (FitsRows p d e (entry e entries) (bit chosen) (place shares) → ⊥)
       → RowsSay p d e chosen entries shares (Refused 12)
   unfolding RowsSay
   rows-wrong q f = inr
-      (refl, opening-opens p H d e le (entry e entries) (bit chosen) (place r′) (w .if-open (not-false (a .opens) q) .0), f)
+      (refl, opening-opens p H d e le (entry e entries) (bit chosen) (place r′) (handed true (not-false (a .opens) q) .0), f)
 
   pub rows-code : not (a .opens) ≡ false → FitsRows p d e (entry e entries) (bit chosen) (place shares)
       → (n c : ℕ) → n ≡ d → c ≡ total n (λ k. place r′ k * place shares k) % p → RowsSay p d e chosen entries shares (Code c)
   unfolding RowsSay
   rows-code q f n c l s =
-      (f, (place r′, w .if-open (not-false (a .opens) q) .0, s ∙ ap (λ (n : ℕ). total n (λ k. place r′ k * place shares k) % p) l))
+      (f, (place r′, handed true (not-false (a .opens) q) .0, s ∙ ap (λ (n : ℕ). total n (λ k. place r′ k * place shares k) % p) l))
 
 -- What a refusal of 0 says.
 pub record Accepted (s : Shape) (labels entries : List ℕ) (set : ℕ) (shares : List ℕ) : Type 0 where
@@ -106,7 +108,7 @@ module _ (s : Shape) (labels entries : List ℕ) (set : ℕ) (shares : List ℕ)
     says chosen agree (Code c) (f, (r, o, q)) = (
       h,
       fits-whole (fits-same _ _ (s .e) (entry (s .e) entries) _ _ (same chosen agree) _ f),
-      (r, opening-same _ _ _ _ _ _ (same chosen agree) r o, q),
+      (r, opening-same _ _ _ _ _ _ _ (λ k j lk lj. refl) (same chosen agree) r o, q),
     )
     says chosen agree (Refused k) u = inr (⊎-elim
         (λ w. inl (h, w .0, closed-same _ _ _ _ _ _ (λ k l. sym (same chosen agree k l)) (w .1)))

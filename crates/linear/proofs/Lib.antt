@@ -6,5 +6,6 @@ pub mod Masked
 pub mod Dual
 pub mod Comb
 pub mod Rows
+pub mod Handed
 pub mod Flat
 pub mod Summing

@@ -65,13 +65,13 @@ module _ (p : ℕ) (H : Prime p) (n : ℕ) (N : ℕ → ℕ → ℕ) where
 
 -- Two tables that agree where they are read.
 module _ (p n m : ℕ) (N M : ℕ → ℕ → ℕ) (same : (k i : ℕ) → k < m → i < n → N k i ≡ M k i) where
-  adds-same : (c d t u : ℕ → ℕ) (k : ℕ) → k < suc m → ((j : ℕ) → j < k → c j ≡ d j) → ((i : ℕ) → i < n → t i ≡ u i)
+  pub adds-same : (c d t u : ℕ → ℕ) (k : ℕ) → k < suc m → ((j : ℕ) → j < k → c j ≡ d j) → ((i : ℕ) → i < n → t i ≡ u i)
       → AddUpTo p n N k c t → AddUpTo p n M k d u
   adds-same c d t u k lk hc ht h i l = ap (λ (x : ℕ). x % p)
       (total-cong k (λ j. d j * M j i) (λ j. c j * N j i) (λ j lj. ap₂ _*_ (sym (hc j lj)) (sym (same j i (omega arith) l))))
       ∙ h i l ∙ ap (λ (x : ℕ). x % p) (ht i l)
 
-  comb-of-same : (b : ℕ → Bool) (k : ℕ) → k < m → CombinationOf p n N b k (N k) → CombinationOf p n M b k (M k)
+  pub comb-of-same : (b : ℕ → Bool) (k : ℕ) → k < m → CombinationOf p n N b k (N k) → CombinationOf p n M b k (M k)
   comb-of-same b k l c = (c .0, c .1, adds-same (c .0) (c .0) (N k) (M k) k (omega arith) (λ j lj. refl) (λ i li. same k i l li) (c .2))
 
 pub none-same : (p n m : ℕ) (N M : ℕ → ℕ → ℕ) → ((k i : ℕ) → k < m → i < n → N k i ≡ M k i) → (t u : ℕ → ℕ) → ((i : ℕ) → i < n → t i ≡ u i)

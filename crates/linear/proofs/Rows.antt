@@ -1,7 +1,7 @@
 -- Open or closed, over numbers modulo a prime: an opening vector or a witness, never both, each unique.
 -- The witness is the one question once more: columns 2 to e over the chosen rows, with the first column's negative as target.
 -- Assumes nothing.
-use mathlib.Core.Path.{_≡_, refl, sym, ap, _∙_, subst, subst⁻¹}
+use mathlib.Core.Path.{_≡_, refl, sym, ap, ap₂, _∙_, subst, subst⁻¹}
 use mathlib.Core.Bool.{Bool, true, false, cond, true≢false, false≢true}
 use mathlib.Core.Logic.{_⊎_, inl, inr, ⊎-elim}
 use Prim.Native.Nat.{ℕ, zero, suc, _<_, _+_, _-_, _*_, _%_, _/_}
@@ -10,13 +10,13 @@ use native.Mathlib.Omega.{arith}
 use Rattle.residue.specs.Prime.{Prime}
 use Rattle.residue.proofs.Modulo.{mod-by, mod-neg, mod-neg-back}
 use Rattle.residue.proofs.Field.{positive}
-use Rattle.linear.specs.Combination.{total, AddUpTo, KeptRule}
+use Rattle.linear.specs.Combination.{total, AddUpTo, CombinationOf, KeptRule}
 use Rattle.linear.specs.Question.{Coefficients, Functional}
 use Rattle.linear.specs.Rows.{target, columnsOf, Open, Closed, OpeningVector, Witness, Rank}
 use Rattle.linear.proofs.Masked.{rowsOf, total-zero, opening-mask, opening-unmask, rank-mask, comb-mask, kills-mask, kills-unmask}
-use Rattle.linear.proofs.Carry.{total-first}
+use Rattle.linear.proofs.Carry.{total-first, total-cong}
 use Rattle.linear.proofs.Numbers as Question
-use Rattle.linear.proofs.Numbers.{coefficients-unique, count-unique, functional-none, rule-same}
+use Rattle.linear.proofs.Numbers.{coefficients-unique, count-unique, functional-none, rule-same, adds-same, comb-of-same}
 use Rattle.linear.proofs.Kept.{count-none}
 
 -- A first factor that is 1 modulo p.
@@ -169,24 +169,36 @@ module _ (p : ℕ) (H : Prime p) (d f : ℕ) (E : ℕ → ℕ → ℕ) (chosen :
       small zero l = H .two
       small (suc j) l = omega (arith, H .two)
 
--- The marks of the chosen rows count only below d.
-module _ (p d e : ℕ) (E : ℕ → ℕ → ℕ) (b c : ℕ → Bool) (same : (k : ℕ) → k < d → b k ≡ c k) where
-  pub opening-same : (r : ℕ → ℕ) → OpeningVector p d e E b r → OpeningVector p d e E c r
+-- The marks of the chosen rows count only below d, the entries only inside the table.
+module _ (p d e : ℕ) (E F : ℕ → ℕ → ℕ) (b c : ℕ → Bool) (entries : (k j : ℕ) → k < d → j < e → E k j ≡ F k j)
+    (marks : (k : ℕ) → k < d → b k ≡ c k) where
+  kept-same : (kept : ℕ → Bool) (k : ℕ) → k < d → (CombinationOf p e E kept k (E k) → ⊥) → CombinationOf p e F kept k (F k) → ⊥
+  kept-same kept k l h o = h (comb-of-same p e d F E (λ i j li lj. sym (entries i j li lj)) kept k l o)
+
+  kept-back : (kept : ℕ → Bool) (k : ℕ) → k < d → (CombinationOf p e F kept k (F k) → ⊥) → CombinationOf p e E kept k (E k) → ⊥
+  kept-back kept k l h o = h (comb-of-same p e d E F entries kept k l o)
+
+  pub opening-same : (r : ℕ → ℕ) → OpeningVector p d e E b r → OpeningVector p d e F c r
   opening-same r o = record {
     kept = o .kept;
-    rule = λ k l. ((λ q. let w = o .rule k l .0 q in (sym (same k l) ∙ w .0, w .1)), λ w. o .rule k l .1 (same k l ∙ w .0, w .1));
+    rule = λ k l. (
+      (λ q. let w = o .rule k l .0 q in (sym (marks k l) ∙ w .0, kept-same (o .kept) k l (w .1))),
+      λ w. o .rule k l .1 (marks k l ∙ w .0, kept-back (o .kept) k l (w .1)),
+    );
     below = o .below;
     only = o .only;
-    gives = o .gives;
+    gives = adds-same p e d E F entries r r target target d (omega arith) (λ j l. refl) (λ i l. refl) (o .gives);
   }
 
-  pub witness-same : (z : ℕ → ℕ) → Witness p d e E b z → Witness p d e E c z
+  pub witness-same : (z : ℕ → ℕ) → Witness p d e E b z → Witness p d e F c z
   witness-same z w = record {
     kept = w .kept;
-    rule = rule-same p d (e - 1) (columnsOf E b) (columnsOf E c) (λ j k lj lk. ap (λ x. cond x (E k (suc j)) 0) (same k lk)) (w .kept)
-        (w .rule);
+    rule = rule-same p d (e - 1) (columnsOf E b) (columnsOf F c)
+        (λ j k lj lk. ap₂ (λ x (y : ℕ). cond x y 0) (marks k lk) (entries k (suc j) lk (omega arith))) (w .kept) (w .rule);
     below = w .below;
     first = w .first;
-    kills = λ k l q. w .kills k l (same k l ∙ q);
+    kills = λ k l q. ap (λ (x : ℕ). x % p)
+        (total-cong e (λ j. F k j * z j) (λ j. E k j * z j) (λ j lj. ap (λ (x : ℕ). x * z j) (sym (entries k j l lj))))
+        ∙ w .kills k l (marks k l ∙ q);
     only = w .only;
   }

@@ -2,7 +2,7 @@
 -- Assumes nothing.
 use mathlib.Core.Path.{_≡_, refl, ap, _∙_, subst, subst⁻¹}
 use mathlib.Core.List.{List}
-use mathlib.Core.Bool.{Bool, true, false, true≢false, false≢true}
+use mathlib.Core.Bool.{Bool, true, false}
 use Prim.Native.Nat.{ℕ, suc, _<_, _+_, _-_}
 use native.Mathlib.Omega.{arith}
 use lib.ListN.{length, getD}
@@ -40,9 +40,8 @@ module _ (p e f d chosen : ℕ) (m : List ℕ) (q : e ≡ suc f) (H : Prime p) (
 
   pub answered-open : o ≡ true → Answered p d e chosen m r₀ z (record { opens = true; rank = s }) r z
   answered-open h = record {
-    if-open = λ w.
+    handed =
         (subst⁻¹ (λ (e′ : ℕ). OpeningVector p d e′ (entry e m) (bit chosen) (place r)) q (g .if-open h .0), g .if-open h .1 ∙ n₀, refl);
-    if-closed = λ w. absurd (true≢false w);
     rank = rank;
   }
 
@@ -50,8 +49,7 @@ module _ (p e f d chosen : ℕ) (m : List ℕ) (q : e ≡ suc f) (H : Prime p) (
       → getD z′ 0 0 ≡ getD y f 0 → ((i : ℕ) → i < f → getD z′ (1 + i) 0 ≡ getD y i 0)
       → Answered p d e chosen m r₀ z (record { opens = false; rank = s }) r z′
   answered-closed h y z′ small one kills n z0 zs = record {
-    if-open = λ w. absurd (false≢true w);
-    if-closed = λ w. (
+    handed = (
       subst⁻¹ (λ (e′ : ℕ). Witness p d e′ (entry e m) (bit chosen) (place z′)) q
           (witness-end p e f d m (bit chosen) q s t
           (subst (λ (k : ℕ). State p f (entry e m) (bit chosen) k s t) kd (g .state)) H y z′ small one kills z0 zs),

@@ -1,5 +1,6 @@
 -- Document 01, "Open or closed": for a scheme and a set, by the definitions of linear/specs/Rows for the set's rows.
 -- Assumes nothing.
+use mathlib.Core.Bool.{Bool}
 use mathlib.Core.List.{List}
 use Prim.Native.Nat.{ℕ}
 use Rattle.linear.specs.Flat.{entry}
@@ -22,3 +23,7 @@ module _ (s : Shape) (labels entries : List ℕ) (set : ℕ) where
   -- "Closed: the witness z, of length e."
   abbrev pub Witness : (ℕ → ℕ) → Type 0
   Witness z = Rows.Witness (s .p) (s .d) (s .e) (entry (s .e) entries) (ofSet set labels) z
+
+  -- r′ and the old z for an open set, z′ and the old r for a closed one.
+  abbrev pub Handed : List ℕ → List ℕ → Bool → List ℕ → List ℕ → Type 0
+  Handed r z opens r′ z′ = Rows.Handed (s .p) (s .d) (s .e) (entry (s .e) entries) (ofSet set labels) r z opens r′ z′

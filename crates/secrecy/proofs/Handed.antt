@@ -116,8 +116,8 @@ module _ (s : Shape) (labels entries : List ℕ) (set : ℕ) (h : IsScheme s lab
 
   pub shown : (a : Verdict) (r′ z′ : List ℕ) → AskSays s labels entries set r z a r′ z′ → Shown a r′ z′
   unfolding AskSays
-  shown Open r′ z′ x = inl (refl, opening-gives-back s labels entries set sound (place r′) (x .1))
-  shown Closed r′ z′ x = inr (refl, witness-pairs s labels entries set sound (place z′) (x .1))
+  shown Open r′ z′ x = inl (refl, opening-gives-back s labels entries set sound (place r′) (x .1 .0))
+  shown Closed r′ z′ x = inr (refl, witness-pairs s labels entries set sound (place z′) (x .1 .0))
   shown (Refused k) r′ z′ x = absurd (omega (arith, x .0, x .1, not-refused))
 
   pub only-one : (v w : ℕ → ℕ) → GivesBack s labels entries set v → Pairs s labels entries set w → ⊥
@@ -130,13 +130,13 @@ module _ (s : Shape) (labels entries : List ℕ) (set : ℕ) (h : IsScheme s lab
   no-row none Open r′ z′ x = absurd (no-row-closed s labels entries set sound none (says-is-open s labels entries set r z r′ z′ x))
   no-row none Closed r′ z′ x = (
     refl,
-    ext-getD 0 z′ (listOf (s .e) target) (x .2 ∙ sym (list-length (s .e) target)) (λ j lj.
+    ext-getD 0 z′ (listOf (s .e) target) (x .1 .1 ∙ sym (list-length (s .e) target)) (λ j lj.
         witness-unique (s .p) (sound .prime) (s .d) (s .e - 1) (E s labels entries set) (chosen s labels entries set) (place z′) target
         (subst (λ (e : ℕ). Rows.Witness (s .p) (s .d) e (E s labels entries set) (chosen s labels entries set) (place z′))
-        (columns s labels entries set sound) (x .1))
+        (columns s labels entries set sound) (x .1 .0))
         (none-chosen (s .p) (sound .prime) (s .d) (s .e - 1) (E s labels entries set) (chosen s labels entries set) none .0) j
-        (omega (arith, x .2, columns s labels entries set sound))
-        ∙ sym (list-at (s .e) target j (omega (arith, x .2)))),
+        (omega (arith, x .1 .1, columns s labels entries set sound))
+        ∙ sym (list-at (s .e) target j (omega (arith, x .1 .1)))),
   )
   no-row none (Refused k) r′ z′ x = absurd (omega (arith, x .0, x .1, not-refused))
 
