@@ -82,6 +82,9 @@ place-inside e j l i h = omega (arith, h .0, h .1, h .2, pairs-rest e j (omega (
 pub first-place : (e : ℕ) → 1 ≤ e → PairAt e 0 0 0
 first-place e h = (omega arith, h, omega (arith, pairs-whole e))
 
+pub pairs-some : (e : ℕ) → 1 ≤ e → 1 ≤ pairs e
+pairs-some e h = place-inside e 0 0 0 (first-place e h)
+
 pub first-pair : (e j l : ℕ) → PairAt e j l 0 → (j ≡ 0) × (l ≡ 0)
 first-pair zero j l h = absurd (not-suc-le-zero (h .1))
 first-pair (suc f) zero l h = (refl, omega (arith, h .2, pairs-whole (suc f)))

@@ -2,7 +2,7 @@
 -- if the product rows, weighted by r, add up to the target. All is exact in numbers, so no field is needed, and each pair of columns, in
 -- either order, is one place of a product row, so p = 2 is no special case.
 -- Assumes nothing.
-use mathlib.Core.Path.{_≡_, refl, sym, ap, ap₂, _∙_, subst}
+use mathlib.Core.Path.{_≡_, sym, ap, ap₂, _∙_}
 use mathlib.Core.Bool.{true≢false}
 use mathlib.Core.Logic.{_↔_, ⊎-elim}
 use Prim.Native.Nat.{ℕ, zero, suc, _<_, _≤_, _+_, _-_, _*_, _%_}
@@ -14,9 +14,10 @@ use Rattle.linear.specs.Combination.{total, AddUpTo}
 use Rattle.linear.specs.Rows.{target, Open, OpeningVector, Witness}
 use Rattle.linear.specs.Product.{Multiplies, HasProduct, pairs, products, productRows, every}
 use Rattle.linear.proofs.Carry.{total-cong}
-use Rattle.linear.proofs.Rows.{times-target, witness-closed}
+use Rattle.linear.proofs.Handed.{witness-closes}
+use Rattle.linear.proofs.Rows.{times-target}
 use Rattle.products.specs.Weighs.{Weighs}
-use Rattle.products.proofs.Pairs.{PairAt, product-at, pair-at, place-of, place-inside, first-place, target-at}
+use Rattle.products.proofs.Pairs.{PairAt, product-at, pair-at, place-of, place-inside, pairs-some, target-at}
 use Rattle.products.proofs.Totals.{unit, unit-same, unit-other, total-unit, total-mul, total-same, total-mod, adds-rows}
 
 unit-first : (j : ℕ) → unit j 0 ≡ target j
@@ -104,9 +105,4 @@ module _ (p d e : ℕ) (E : ℕ → ℕ → ℕ) where
     yes-multiplies r o = adds-multiplies r (o .gives)
 
     pub no-product : Prime p → (w : ℕ → ℕ) → Witness p d (pairs e) (productRows p e E) every w → HasProduct p d e E → ⊥
-    no-product H w c h = witness-closed p H d (pairs e - 1) (productRows p e E) every w
-        (subst (λ (n : ℕ). Witness p d n (productRows p e E) every w) places c)
-        (subst (λ (n : ℕ). Open p d n (productRows p e E) every) places (product-open .0 h))
-      where
-        places : pairs e ≡ suc (pairs e - 1)
-        places = omega (arith, place-inside e 0 0 0 (first-place e some))
+    no-product H w c h = witness-closes p H d (pairs e) (pairs-some e some) (productRows p e E) every w c (product-open .0 h)

@@ -1,7 +1,7 @@
 -- What a refusal that is not 0, and one that is 0, says of the tests behind it; and what holds of a scheme that is not refused.
 -- Assumes nothing.
 use mathlib.Core.Path.{_≡_, ap, refl, sym, subst⁻¹, _∙_}
-use mathlib.Core.Bool.{Bool, true, false}
+use mathlib.Core.Bool.{Bool, true, false, _&&_}
 use mathlib.Core.List.{List}
 use mathlib.Core.Logic.{⊎-elim}
 use Prim.Native.Nat.{ℕ, zero, suc, _*_, _/_, _^_, _≤_, _<_}
@@ -174,3 +174,17 @@ module _ (s : Shape) (labels entries : List ℕ) (fits f : Bool) (more r : ℕ) 
   pub call-more : r ≡ 0 → more ≡ refusalOf s labels entries fits more
   call-more h = sym
       (refusal-more s labels entries fits more ∙ ap (λ k. orElse k more) (sym (e ∙ ap (λ b. refusalOf s labels entries b 0) q) ∙ h))
+
+-- The lengths of a call's own lists count only where e is at most 12, since a larger e is refused before them.
+pub refusal-lengths : (s : Shape) (labels entries : List ℕ) (a b : Bool) (more : ℕ) → (s .e ≤ 12 → a ≡ b)
+    → refusalOf s labels entries a more ≡ refusalOf s labels entries b more
+unfolding refusalOf
+refusal-lengths s labels entries a b more same = cases (numbersRefusal s) refl
+  where
+    tests : Bool → ℕ
+    tests c = orElse (unless (eqb (length labels) (s .d) && (eqb (length entries) (s .d * s .e) && c)) 5)
+        (orElse (contentRefusal (s .p) (s .n) labels entries) more)
+
+    cases : (k : ℕ) → numbersRefusal s ≡ k → orElse (numbersRefusal s) (tests a) ≡ orElse (numbersRefusal s) (tests b)
+    cases zero q = ap (λ c. orElse (numbersRefusal s) (tests c)) (same (within-true 1 12 (s .e) (numbers s q .e-right) .1))
+    cases (suc k) q = ap (λ (n : ℕ). orElse n (tests a)) q ∙ sym (ap (λ (n : ℕ). orElse n (tests b)) q)

@@ -4,12 +4,8 @@
 // python3 FOLDER/trials.py < crates/try_calls/requests, where FOLDER is that program's folder.
 use ask::Verdict;
 use join::Joined;
-use libc::STDOUT_FILENO;
 use scheme::Outcome;
 use scheme::Shape;
-
-// What each place of a result list holds before a call.
-const MARK: u32 = 61681;
 
 // Document 01's S, with the random numbers and the shares of example A.
 const LABELS: [u32; 5] = [1, 2, 3, 4, 5];
@@ -33,70 +29,38 @@ fn s() -> Shape {
     shape(17, 5, 5, 3)
 }
 
-fn mark(xs: &mut [u32]) {
-    let mut i = 0;
-    while i < xs.len() {
-        xs[i] = MARK;
-        i += 1;
-    }
-}
-
-fn write(text: &[u8]) {
-    io::write_all(STDOUT_FILENO, text);
-}
-
-fn write_next(x: u32) {
-    write(b" ");
-    io::print_decimal(STDOUT_FILENO, x as u64);
-}
-
-// A list that was lent, after the call.
-fn write_list(xs: &[u32]) {
-    write(b" |");
-    let mut i = 0;
-    while i < xs.len() {
-        write_next(xs[i]);
-        i += 1;
-    }
-}
-
-fn write_refused(k: u32) {
-    write(b" REFUSED");
-    write_next(k);
-}
-
 fn write_outcome(a: Outcome) {
     match a {
-        Outcome::Done => write(b" OK"),
-        Outcome::Refused(k) => write_refused(k),
+        Outcome::Done => show::text(b" OK"),
+        Outcome::Refused(k) => show::refused(k),
     }
 }
 
 fn write_verdict(a: Verdict) {
     match a {
-        Verdict::Open => write(b" OPEN"),
-        Verdict::Closed => write(b" CLOSED"),
-        Verdict::Refused(k) => write_refused(k),
+        Verdict::Open => show::text(b" OPEN"),
+        Verdict::Closed => show::text(b" CLOSED"),
+        Verdict::Refused(k) => show::refused(k),
     }
 }
 
 fn write_code(x: u32) {
-    write(b" OK");
-    write_next(x);
+    show::text(b" OK");
+    show::number(x);
 }
 
 fn write_joined(a: Joined) {
     match a {
         Joined::Code(x) => write_code(x),
-        Joined::Refused(k) => write_refused(k),
+        Joined::Refused(k) => show::refused(k),
     }
 }
 
 fn show_check(s: Shape, labels: &[u32], entries: &[u32]) {
-    write(b"check");
+    show::text(b"check");
     let a = scheme::check(s, labels, entries);
     write_outcome(a);
-    write(b"\n");
+    show::text(b"\n");
 }
 
 fn show_deal(
@@ -107,30 +71,30 @@ fn show_deal(
     randoms: &[u32],
     shares: &mut [u32],
 ) {
-    mark(shares);
-    write(b"deal");
+    show::mark(shares);
+    show::text(b"deal");
     let a = deal::deal(s, labels, entries, secret, randoms, shares);
     write_outcome(a);
-    write_list(shares);
-    write(b"\n");
+    show::list(shares);
+    show::text(b"\n");
 }
 
 fn show_ask(s: Shape, labels: &[u32], entries: &[u32], set: u32, r: &mut [u32], z: &mut [u32]) {
-    mark(r);
-    mark(z);
-    write(b"ask");
+    show::mark(r);
+    show::mark(z);
+    show::text(b"ask");
     let a = ask::ask(s, labels, entries, set, r, z);
     write_verdict(a);
-    write_list(r);
-    write_list(z);
-    write(b"\n");
+    show::list(r);
+    show::list(z);
+    show::text(b"\n");
 }
 
 fn show_join(s: Shape, labels: &[u32], entries: &[u32], set: u32, shares: &[u32]) {
-    write(b"join");
+    show::text(b"join");
     let a = join::join(s, labels, entries, set, shares);
     write_joined(a);
-    write(b"\n");
+    show::text(b"\n");
 }
 
 // Every call, with the set and the numbers of examples A and B.

@@ -1,11 +1,11 @@
--- `try_calls::mark` is safe and ends: the list keeps its length.
+-- `show::mark` is safe and ends: the list keeps its length.
 -- Assumes nothing.
 use lib.ListN.{length}
 use mathlib.Core.Path.{_≡_}
 use Prim.Native.Nat.{_≤_, _-_}
 use borrow.Author.Needs.{needs}
-use Rattle.try_calls.proofs.mark.Statement.{statement}
-use Rattle.try_calls.proofs.mark.Tie as tie
+use Rattle.show.proofs.mark.Statement.{statement}
+use Rattle.show.proofs.mark.Tie as tie
 
 abbrev Inv-loop : tie.InvT-loop
 Inv-loop xs₀ i₀ xs i = (i ≤ length xs₀) × (length xs ≡ length xs₀)
