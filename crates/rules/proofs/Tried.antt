@@ -1,0 +1,28 @@
+-- The definitions tried: example J and `1|2&3` of document 01.
+-- Assumes nothing.
+use mathlib.Core.Path.{_≡_, refl}
+use mathlib.Core.List.{List, [], _∷_}
+use Prim.Native.Nat.{ℕ}
+use Rattle.rules.specs.Tree.{Rule, term, _or_, atom, _and_, number, group}
+use Rattle.rules.specs.Text.{ruleText}
+use Rattle.rules.specs.Construction.{rows}
+
+-- `(1|2)&3`, p = 17: "rows (0,1), (0,1), (1,16), labels 1, 2, 3".
+abbrev pub J : Rule
+J = term (group (atom (number 1) or term (atom (number 2))) and atom (number 3))
+
+pub J-text : ruleText J ≡ 40 ∷ 49 ∷ 124 ∷ 50 ∷ 41 ∷ 38 ∷ 51 ∷ []
+unfolding ruleText
+J-text = refl
+
+pub J-rows : rows 17 J ≡ (1, 0 ∷ 1 ∷ []) ∷ (2, 0 ∷ 1 ∷ []) ∷ (3, 1 ∷ 16 ∷ []) ∷ []
+unfolding rows
+J-rows = refl
+
+-- `1|2&3` opens for 1 with one row.
+abbrev pub oneOrTwo : Rule
+oneOrTwo = atom (number 1) or term (number 2 and atom (number 3))
+
+pub oneOrTwo-rows : rows 17 oneOrTwo ≡ (1, 1 ∷ 0 ∷ []) ∷ (2, 0 ∷ 1 ∷ []) ∷ (3, 1 ∷ 16 ∷ []) ∷ []
+unfolding rows
+oneOrTwo-rows = refl
