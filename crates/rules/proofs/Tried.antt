@@ -4,19 +4,19 @@ use mathlib.Core.Path.{_≡_, refl}
 use mathlib.Core.List.{List, [], _∷_}
 use Prim.Native.Nat.{ℕ}
 use Rattle.rules.specs.Tree.{Rule, term, _or_, atom, _and_, number, group}
-use Rattle.rules.specs.Text.{ruleText}
-use Rattle.rules.specs.Construction.{rows}
+use Rattle.rules.specs.Text.{ruleText, numeral}
+use Rattle.rules.specs.Construction.{rows, modulo, ruleRows, lessAll, ruleTakes, ands}
 
 -- `(1|2)&3`, p = 17: "rows (0,1), (0,1), (1,16), labels 1, 2, 3".
 abbrev pub J : Rule
 J = term (group (atom (number 1) or term (atom (number 2))) and atom (number 3))
 
 pub J-text : ruleText J ≡ 40 ∷ 49 ∷ 124 ∷ 50 ∷ 41 ∷ 38 ∷ 51 ∷ []
-unfolding ruleText
+unfolding ruleText numeral
 J-text = refl
 
 pub J-rows : rows 17 J ≡ (1, 0 ∷ 1 ∷ []) ∷ (2, 0 ∷ 1 ∷ []) ∷ (3, 1 ∷ 16 ∷ []) ∷ []
-unfolding rows
+unfolding rows modulo ruleRows lessAll ruleTakes ands
 J-rows = refl
 
 -- `1|2&3` opens for 1 with one row.
@@ -24,5 +24,5 @@ abbrev pub oneOrTwo : Rule
 oneOrTwo = atom (number 1) or term (number 2 and atom (number 3))
 
 pub oneOrTwo-rows : rows 17 oneOrTwo ≡ (1, 1 ∷ 0 ∷ []) ∷ (2, 0 ∷ 1 ∷ []) ∷ (3, 1 ∷ 16 ∷ []) ∷ []
-unfolding rows
+unfolding rows modulo ruleRows lessAll ruleTakes ands
 oneOrTwo-rows = refl
