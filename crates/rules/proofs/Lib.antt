@@ -1,1 +1,7 @@
 pub mod Tried
+pub mod Groups
+pub mod Same
+pub mod Polynomial
+pub mod Functional
+pub mod Choices
+pub mod Truth
