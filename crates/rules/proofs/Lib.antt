@@ -5,3 +5,4 @@ pub mod Polynomial
 pub mod Functional
 pub mod Choices
 pub mod Truth
+pub mod Numbers
