@@ -6,3 +6,5 @@ pub mod Functional
 pub mod Choices
 pub mod Truth
 pub mod Numbers
+pub mod Counting
+pub mod Signs
