@@ -16,7 +16,8 @@ use Rattle.algebra.specs.Ring.{Ring, Field}
 use Rattle.algebra.proofs.Normal.{v, c0, _:+_, _:-_, _:*_, ring}
 use Rattle.rules.specs.Tree.{Rules, rule, _comma_, ruleHolds, howMany, branches}
 use Rattle.rules.specs.Construction.{plusPowers}
-use Rattle.rules.proofs.Polynomial.{nat, nat-add, nat-pow, pow-one, eval, Roots, Other, Distinct, vanish, step, step-length, step-root, step-keep}
+use Rattle.rules.proofs.Polynomial.{nat, nat-add, nat-pow, pow-one, eval, Roots, Other, Distinct, vanish}
+use Rattle.rules.proofs.Polynomial.{step, step-length, step-root, step-keep}
 use Rattle.rules.proofs.Functional.{values, put, put-same, put-other, Outside, Inside, plus-keep}
 
 module _ {A : Type 0} (K : Field A) where

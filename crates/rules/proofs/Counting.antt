@@ -76,7 +76,8 @@ module _ (p : ℕ) (r : Rule) where
   O = modulo p (columns r)
 
   -- The target is the vector with 1 in column 0.
-  each-row : (P : List ℕ → Type 0) → Match O O (λ x y. P x) 0 (columns r) → (k : ℕ) → k < length (rows p r) → P (getD (rows p r) k (0, []) .1)
+  each-row : (P : List ℕ → Type 0) → Match O O (λ x y. P x) 0 (columns r)
+      → (k : ℕ) → k < length (rows p r) → P (getD (rows p r) k (0, []) .1)
   unfolding rows modulo
   each-row P M = all-at P (rows p r) (rows p r)
       (rule-same O O (λ x y. P x) 0 (columns r) M r (set (replicate (columns r) 0) 0 1) (set (replicate (columns r) 0) 0 1) 1 (omega arith)

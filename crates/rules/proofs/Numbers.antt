@@ -4,21 +4,20 @@ use mathlib.Core.Path.{_≡_, refl, sym, ap, ap₂, _∙_}
 use mathlib.Core.Bool.{Bool, true, false, true≢false}
 use mathlib.Core.Logic.{⊎-elim, _↔_}
 use mathlib.Core.List.{List, [], _∷_}
-use Prim.Native.Nat.{ℕ, zero, suc, _+_, _-_, _*_, _%_, _<_}
+use Prim.Native.Nat.{ℕ, zero, suc, _+_, _-_, _%_, _<_}
 use native.Mathlib.Nat.{not-suc-le-zero, le-of-suc-le-suc, mod-eq-of-lt, zero-mod}
 use native.Mathlib.Omega.{arith}
 use lib.ListN.{getD, length, set, replicate, length-set, length-replicate}
 use lib.Seq.{getD-set-same, getD-set-other}
 use Rattle.algebra.specs.Ring.{Ring, Field}
-use Rattle.algebra.specs.Sum.{sum, dot}
+use Rattle.algebra.specs.Sum.{dot}
 use Rattle.algebra.proofs.Cases.{same?}
 use Rattle.algebra.proofs.Ring.{zero-r, one-r, mul-zero, neg-mul}
 use Rattle.algebra.proofs.Sum.{sum-cong, sum-zero, sum-lin, sum-unit, unit, unit-same, unit-other, dot-comm}
 use Rattle.lists.proofs.Store.{zeros-at}
 use Rattle.residue.specs.Prime.{Prime}
 use Rattle.residue.specs.Residue.{F, res}
-use Rattle.residue.proofs.Field.{residueRing, residues, res-mod, res-add, one-not-zero}
-use Rattle.linear.specs.Combination.{total}
+use Rattle.residue.proofs.Field.{residues, res-mod, res-add, one-not-zero}
 use Rattle.linear.specs.Question.{Functional}
 use Rattle.linear.specs.Rows.{target, Open, Witness}
 use Rattle.linear.proofs.Carry.{dot-iff, dot-val}
@@ -98,8 +97,7 @@ module _ (p : ℕ) (H : Prime p) where
     units = λ k l u. (
       length-set (replicate e 0) k 1 ∙ length-replicate e 0,
       dot-set e y (replicate e 0) k 1 𝟙 (length-replicate e 0) u (sym (ap (λ z. z ⊕ 𝟙) (zeros k) ∙ zero-l 𝟙))
-          ∙ ap₂ _⊕_ (sum-zero R e (λ j. y j ⊗ entry (replicate e 0) j) (λ j lj. ap (λ z. y j ⊗ z) (zeros j) ∙ mul-zero R (y j))) (one-l (y k))
-          ∙ zero-l (y k),
+          ∙ ap₂ _⊕_ dot-zeros (one-l (y k)) ∙ zero-l (y k),
     );
     lesses = λ k x a l u h. (
       length-set x k ((getD x k 0 + (p - 1)) % p) ∙ h .0,
@@ -114,6 +112,9 @@ module _ (p : ℕ) (H : Prime p) where
     where
       zeros : (k : ℕ) → entry (replicate e 0) k ≡ 𝟘
       zeros k = ap (res p H) (zeros-at e k)
+
+      dot-zeros : dot R e y (entry (replicate e 0)) ≡ 𝟘
+      dot-zeros = sum-zero R e (λ j. y j ⊗ entry (replicate e 0) j) (λ j l. ap (λ z. y j ⊗ z) (zeros j) ∙ mul-zero R (y j))
 
   module _ (member : ℕ → Bool) where
     -- y is 0 at each row of the set.
@@ -147,7 +148,8 @@ module _ (p : ℕ) (H : Prime p) where
       related : (y : ℕ → F p) → AllRel (Has (columns r) y) made (ruleRows (values K y) r (y zero) 1)
       unfolding rows modulo values
       related y = rule-same (modulo p (columns r)) (values K y) (Has (columns r) y) 0 (columns r) (matches (columns r) y) r
-          (set (replicate (columns r) 0) 0 1) (y zero) 1 (omega arith) (omega arith) (matches (columns r) y .units zero (omega arith) (omega arith))
+          (set (replicate (columns r) 0) 0 1) (y zero) 1 (omega arith) (omega arith)
+          (matches (columns r) y .units zero (omega arith) (omega arith))
 
       -- True: what kills the set's rows gives the target 0.
       kills-target : (y : ℕ → F p) → KillsRows (columns r) y made → ruleHolds member r ≡ true → y zero ≡ 𝟘

@@ -9,7 +9,7 @@ use lib.Dec.{eqb, ltb}
 use lib.ListN.{length, length-append}
 use borrow.Author.Tests.{ne-eqb, ltb-true, ltb-false}
 use Rattle.rules.specs.Tree.{Rule, Term, Atom, term, _or_, atom, _and_, number, group, choice, ruleNames, termNames, atomNames}
-use Rattle.rules.specs.Text.{bar, ampersand, opening, closing, numeral, ruleText, termText, atomText, WellRule, WellTerm, WellAtom}
+use Rattle.rules.specs.Text.{bar, ampersand, closing, numeral, ruleText, termText, atomText, WellRule, WellTerm, WellAtom}
 use Rattle.rules.specs.Bytes.{occurs}
 use Rattle.rules.specs.Construction.{ands, ruleTakes, insideTakes, atomTakes}
 
@@ -40,8 +40,13 @@ mutual
 
   pub names-joins : (r : Rule) (d : ℕ) → WellRule r d → length (ruleNames r) ≡ 1 + (occurs 38 (ruleText r) + occurs 124 (ruleText r))
   names-joins (term t) d w = term-joins t d w
-  names-joins (t or r) d w = omega
-      (arith, length-append (termNames t) (ruleNames r), joins-append (termText t) (bar ∷ ruleText r), term-joins t d (w .0), names-joins r d (w .1))
+  names-joins (t or r) d w = omega (
+    arith,
+    length-append (termNames t) (ruleNames r),
+    joins-append (termText t) (bar ∷ ruleText r),
+    term-joins t d (w .0),
+    names-joins r d (w .1),
+  )
 
   term-joins : (t : Term) (d : ℕ) → WellTerm t d → length (termNames t) ≡ 1 + joins (termText t)
   term-joins (atom a) d w = atom-joins a d w
@@ -64,7 +69,8 @@ mutual
 
   pub takes-ands : (r : Rule) (d : ℕ) → WellRule r d → ruleTakes r ≡ occurs 38 (ruleText r)
   takes-ands (term t) d w = term-ands t d w
-  takes-ands (t or r) d w = omega (arith, occurs-append ampersand (termText t) (bar ∷ ruleText r), term-ands t d (w .0), takes-ands r d (w .1))
+  takes-ands (t or r) d w =
+      omega (arith, occurs-append ampersand (termText t) (bar ∷ ruleText r), term-ands t d (w .0), takes-ands r d (w .1))
 
   term-ands : (t : Term) (d : ℕ) → WellTerm t d → ands t + insideTakes t ≡ occurs ampersand (termText t)
   term-ands (atom a) d w = omega (arith, atom-ands a d w)

@@ -56,7 +56,8 @@ module _ {A : Type 0} (K : Field A) (member : ℕ → Bool) where
     mutual
       unfolding ruleRows ruleHolds ands values
 
-      pub rule-zero : (r : Rule) (a : A) (c : ℕ) → RuleGroups (Fit K) r → Killed K member (ruleRows O r a c) → ruleHolds member r ≡ true → a ≡ 𝟘
+      pub rule-zero : (r : Rule) (a : A) (c : ℕ) → RuleGroups (Fit K) r → Killed K member (ruleRows O r a c)
+          → ruleHolds member r ≡ true → a ≡ 𝟘
       rule-zero (term t) a c f k h = less-zero y c (ands t) a (term-zero t (lessAll O c (ands t) a) c (c + ands t) f k h)
       rule-zero (t or r) a c f k h =
           let s = killed-split K member (ruleRows O (term t) a c) (ruleRows O r a (c + (ands t + insideTakes t))) k in
@@ -142,14 +143,16 @@ module _ {A : Type 0} (K : Field A) (member : ℕ → Bool) where
         → Extends y c (ruleTakes r) (λ z. Killed K member (ruleRows (values K z) r a c))
     rule-extends (term t) a c y f h =
         let u = term-columns t y a c h in
-        own-columns t a c y (u .0) (u .1) (term-extends t (lessAll (values K (u .0)) c (ands t) a) c (c + ands t) (u .0) f (omega arith) (u .2))
+        own-columns t a c y (u .0) (u .1)
+        (term-extends t (lessAll (values K (u .0)) c (ands t) a) c (c + ands t) (u .0) f (omega arith) (u .2))
     rule-extends (t or r) a c y f h =
         let n = ands t + insideTakes t in
         let u = term-columns t y a c (λ e. h (ap (λ b. b || ruleHolds member r) e)) in
         let w = own-columns t a c y (u .0) (u .1)
         (term-extends t (lessAll (values K (u .0)) c (ands t) a) c (c + ands t) (u .0) (f .0) (omega arith) (u .2)) in
         let x = rule-extends r a (c + n) (w .0) (f .1) (λ e. h (or-right (termHolds member t) (ruleHolds member r) e)) in
-        let kept = rule-keep K member (term t) a a c (w .0) (x .0) (before K c n (c + n) (ruleTakes r) (w .0) (x .0) (omega arith) (x .1)) refl in (
+        let kept = rule-keep K member (term t) a a c (w .0) (x .0)
+        (before K c n (c + n) (ruleTakes r) (w .0) (x .0) (omega arith) (x .1)) refl in (
           x .0,
           outside-join K c n (ruleTakes r) y (w .0) (x .0) (w .1) (x .1),
           killed-join K member (ruleRows (values K (x .0)) (term t) a c) (ruleRows (values K (x .0)) r a (c + n)) (kept (w .2)) (x .2),
