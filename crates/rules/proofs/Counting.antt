@@ -15,7 +15,7 @@ use Rattle.rules.specs.Text.{WellRule, WellTerm, WellAtom}
 use Rattle.rules.specs.Construction.{Vectors, ands, ruleTakes, insideTakes, atomTakes, lessAll, plusPowers}
 use Rattle.rules.specs.Construction.{ruleRows, termRows, atomRows, rulesRows, modulo, columns, rows, labelsOf, entriesOf}
 use Rattle.rules.proofs.Same.{AllRel, Match, rule-same}
-use Rattle.rules.proofs.Numbers.{rowEntry}
+use Rattle.rules.proofs.Numbers.{rowLabel, rowEntry}
 
 labels-append : (rs qs : List (ℕ × List ℕ)) → labelsOf (rs ++ qs) ≡ labelsOf rs ++ labelsOf qs
 unfolding labelsOf
@@ -26,6 +26,12 @@ labels-length : (rs : List (ℕ × List ℕ)) → length (labelsOf rs) ≡ lengt
 unfolding labelsOf
 labels-length [] = refl
 labels-length (r ∷ rs) = ap suc (labels-length rs)
+
+pub label-at : (rs : List (ℕ × List ℕ)) (k : ℕ) → getD (labelsOf rs) k 0 ≡ rowLabel rs k
+unfolding labelsOf
+label-at [] k = refl
+label-at (r ∷ rs) zero = refl
+label-at (r ∷ rs) (suc k) = label-at rs k
 
 -- The labels are the names, whatever is done with vectors.
 module _ (O : Vectors (List ℕ)) where

@@ -1,4 +1,4 @@
--- The definitions tried: example J and `1|2&3` of document 01.
+-- The definitions tried: example J and `1|2&3` of document 01, a rule in a rule, and p = 2.
 -- Assumes nothing.
 use mathlib.Core.Path.{_≡_, refl}
 use mathlib.Core.List.{List, [], _∷_}
@@ -26,3 +26,19 @@ oneOrTwo = atom (number 1) or term (number 2 and atom (number 3))
 pub oneOrTwo-rows : rows 17 oneOrTwo ≡ (1, 1 ∷ 0 ∷ []) ∷ (2, 0 ∷ 1 ∷ []) ∷ (3, 1 ∷ 16 ∷ []) ∷ []
 unfolding rows modulo ruleRows lessAll ruleTakes ands
 oneOrTwo-rows = refl
+
+-- `(1&2)&3`: the outer term takes column 1 before the inner one takes column 2.
+abbrev pub nested : Rule
+nested = term (group (term (number 1 and atom (number 2))) and atom (number 3))
+
+pub nested-rows : rows 17 nested ≡ (1, 0 ∷ 0 ∷ 1 ∷ []) ∷ (2, 0 ∷ 1 ∷ 16 ∷ []) ∷ (3, 1 ∷ 16 ∷ 0 ∷ []) ∷ []
+unfolding rows modulo ruleRows lessAll ruleTakes ands
+nested-rows = refl
+
+-- `1&2&3`, p = 2: 1 taken off is 1 added.
+abbrev pub allThree : Rule
+allThree = term (number 1 and number 2 and atom (number 3))
+
+pub allThree-rows : rows 2 allThree ≡ (1, 0 ∷ 1 ∷ 0 ∷ []) ∷ (2, 0 ∷ 0 ∷ 1 ∷ []) ∷ (3, 1 ∷ 1 ∷ 1 ∷ []) ∷ []
+unfolding rows modulo ruleRows lessAll ruleTakes ands
+allThree-rows = refl
