@@ -55,7 +55,7 @@ module _ {A : Type 0} (K : Field A) where
 
   branch : (y : ℕ → A) (i c q : ℕ) (x : A) → plusPowers (values K y) i 1 c q x ≡ eval K (x ∷ coefs y c q) (nat K i)
   unfolding eval
-  branch y i c q x = powers y i 1 c q x ∙ ap (λ (z : ℕ). x ⊕ nat K z ⊗ eval K (coefs y c q) (nat K i)) (pow-one K i)
+  branch y i c q x = powers y i 1 c q x ∙ ap (λ (z : ℕ). x ⊕ nat K z ⊗ eval K (coefs y c q) (nat K i)) (pow-one i)
 
   module _ (member : ℕ → Bool) where
     -- P j for each true rule, where the first rule is the i-th.

@@ -12,6 +12,9 @@ use Rattle.algebra.specs.Ring.{Ring, Field}
 use Rattle.algebra.proofs.Ring as L
 use Rattle.algebra.proofs.Normal.{v, c0, c1, _:+_, _:-_, _:*_, ng, ring}
 
+pub pow-one : (i : ℕ) → i ^ 1 ≡ i
+pow-one i = pow-suc i zero ∙ ap (λ (x : ℕ). x * i) (pow-zero i) ∙ omega arith
+
 module _ {A : Type 0} (K : Field A) where
   open Field K using (R)
   open Ring R using (𝟘, 𝟙, _⊕_, _⊗_, neg, zero-l, one-l, massoc, assoc)
@@ -36,9 +39,6 @@ module _ {A : Type 0} (K : Field A) where
 
   pub nat-pow : (i j : ℕ) → nat (i ^ suc j) ≡ nat (i ^ j) ⊗ nat i
   nat-pow i j = ap nat (pow-suc i j) ∙ nat-mul (i ^ j) i
-
-  pub pow-one : (i : ℕ) → i ^ 1 ≡ i
-  pow-one i = pow-suc i zero ∙ ap (λ (x : ℕ). x * i) (pow-zero i) ∙ omega arith
 
   -- A product that is 0, and its first factor is not.
   pub factor : (a b : A) → a ⊗ b ≡ 𝟘 → (a ≡ 𝟘 → ⊥) → b ≡ 𝟘

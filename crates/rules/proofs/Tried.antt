@@ -1,8 +1,7 @@
 -- The definitions tried: example J and `1|2&3` of document 01, a rule in a rule, and p = 2.
 -- Assumes nothing.
 use mathlib.Core.Path.{_≡_, refl}
-use mathlib.Core.List.{List, [], _∷_}
-use Prim.Native.Nat.{ℕ}
+use mathlib.Core.List.{[], _∷_}
 use Rattle.rules.specs.Tree.{Rule, term, _or_, atom, _and_, number, group}
 use Rattle.rules.specs.Text.{ruleText, numeral}
 use Rattle.rules.specs.Construction.{rows, modulo, ruleRows, lessAll, ruleTakes, ands}
