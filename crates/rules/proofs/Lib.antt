@@ -1,0 +1,10 @@
+pub mod Tried
+pub mod Groups
+pub mod Same
+pub mod Polynomial
+pub mod Functional
+pub mod Choices
+pub mod Truth
+pub mod Numbers
+pub mod Counting
+pub mod Signs

@@ -1,0 +1,1 @@
+// Theory only: written rules, their texts, their truth and their matrices.
