@@ -190,3 +190,9 @@ module _ (p d e : ℕ) (E : ℕ → ℕ → ℕ) (b c : ℕ → Bool) (same : (k
     kills = λ k l q. w .kills k l (same k l ∙ q);
     only = w .only;
   }
+
+  pub open-same : Open p d e E b → Open p d e E c
+  open-same o = (o .0, (λ k l q. o .1 k l (same k l ∙ q)), o .2)
+
+  pub closed-same : Closed p d e E b → Closed p d e E c
+  closed-same h o = h (o .0, (λ k l q. o .1 k l (sym (same k l) ∙ q)), o .2)

@@ -1,6 +1,6 @@
 -- Open or closed without r and z: the rows are gone through until a line has its pivot at the last place, and are open where one has.
 -- Assumes nothing.
-use mathlib.Core.Path.{_≡_, refl, sym, ap, _∙_}
+use mathlib.Core.Path.{_≡_, refl, sym, ap, _∙_, subst, subst⁻¹}
 use mathlib.Core.List.{List, []}
 use mathlib.Core.Bool.{Bool, _&&_}
 use mathlib.Core.Logic.{⊎-elim}
@@ -101,10 +101,11 @@ module _ (p e f d : ℕ) (m : List ℕ) (chosen : ℕ → Bool) (q : e ≡ suc f
       below = pivots-next p e f d m chosen q k s t (g .state) v s′ t′ H le nx so ne (g .below);
     }
 
-    pub met-open : k < d → getD v 25 0 + 1 ≡ e → Open p d (suc f) (entry e m) chosen
-    met-open lk z = open-of p H d f (entry e m) chosen (k + 1) (omega arith)
+    -- A pivot at the last place: the rows are open, whatever the rows after this one are.
+    pub met-open : k < d → getD v 25 0 + 1 ≡ e → Open p d e (entry e m) chosen
+    met-open lk z = subst⁻¹ (λ (n : ℕ). Open p d n (entry e m) chosen) q (open-of p H d f (entry e m) chosen (k + 1) (omega arith)
         (goal-line (residues p H) f (workOf p H f (entry e m) chosen) (k + 1) (s + 1) (linesOf p H (set t s v)) (after .basis H) s
-        (omega arith) (ap (λ (w : List ℕ). getD w 25 0) (getD-set-same t s v [] long) ∙ omega arith))
+        (omega arith) (ap (λ (w : List ℕ). getD w 25 0) (getD-set-same t s v [] long) ∙ omega arith)))
       where
         long : s < length t
         long = omega (arith, store-room p e f d m chosen q k s t (g .state) v H le nx (omega arith), g .state .len)
@@ -112,6 +113,7 @@ module _ (p e f d : ℕ) (m : List ℕ) (chosen : ℕ → Bool) (q : e ≡ suc f
         after : State p f (entry e m) chosen (k + 1) (s + 1) (set t s v)
         after = state-next p e f d m chosen q k s t (g .state) v (s + 1) (set t s v) H le nx ((λ l. (refl, refl)), λ l. absurd (omega arith))
 
-  pub unmet-closed : (s : ℕ) (t : List (List ℕ)) → Unmet p f (entry e m) chosen d s t → Prime p → Closed p d (suc f) (entry e m) chosen
+  -- All rows gone through, and no pivot at the last place.
+  pub unmet-closed : (s : ℕ) (t : List (List ℕ)) → Unmet p f (entry e m) chosen d s t → Prime p → Closed p d e (entry e m) chosen
   unmet-closed s t g H o = goal-none (residues p H) f (workOf p H f (entry e m) chosen) d s (linesOf p H t) (g .state .basis H) (g .below)
-      (goal-of p H d f (entry e m) chosen o)
+      (goal-of p H d f (entry e m) chosen (subst (λ (n : ℕ). Open p d n (entry e m) chosen) q o))
