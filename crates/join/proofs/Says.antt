@@ -14,7 +14,7 @@ use Rattle.residue.specs.Prime.{Prime}
 use Rattle.linear.specs.Combination.{total}
 use Rattle.linear.specs.Flat.{place, entry}
 use Rattle.linear.specs.Rows as Rows
-use Rattle.linear.proofs.Rows.{opening-open, witness-closed}
+use Rattle.linear.proofs.Rows.{opening-open, witness-closed, opening-same, open-same, closed-same}
 use Rattle.rows.specs.declared.Answer.{Answer}
 use Rattle.linear.specs.Bits.{bit}
 use Rattle.rows.specs.Answered.{Answered}
@@ -29,8 +29,7 @@ use Rattle.join.specs.declared.Joined.the-variants.{Code, Refused}
 use Rattle.join.specs.Says.{JoinSays}
 use Rattle.join.specs.Steps.{FitsRows, RowsSay}
 use Rattle.join.proofs.Read.{read-at}
-use Rattle.linear.proofs.Rows.{opening-same}
-use Rattle.join.proofs.Same.{open-same, closed-same, fits-same}
+use Rattle.join.proofs.Same.{fits-same}
 
 -- The same with at least one column, without a name for the others.
 pub opening-opens : (p : ℕ) → Prime p → (d e : ℕ) → 1 ≤ e → (E : ℕ → ℕ → ℕ) (chosen : ℕ → Bool) (r : ℕ → ℕ)

@@ -194,5 +194,5 @@ module _ (p d e : ℕ) (E : ℕ → ℕ → ℕ) (b c : ℕ → Bool) (same : (k
   pub open-same : Open p d e E b → Open p d e E c
   open-same o = (o .0, (λ k l q. o .1 k l (same k l ∙ q)), o .2)
 
-  pub closed-same : Closed p d e E b → Closed p d e E c
-  closed-same h o = h (o .0, (λ k l q. o .1 k l (sym (same k l) ∙ q)), o .2)
+  pub closed-same : Closed p d e E c → Closed p d e E b
+  closed-same h o = h (open-same o)
