@@ -1,6 +1,6 @@
 -- The search for the first set number that breaks a threshold: what a turn finds of its set, and how the search goes on or ends.
 -- Assumes nothing.
-use mathlib.Core.Path.{_≡_, refl, sym, _∙_, subst}
+use mathlib.Core.Path.{_≡_, refl, sym, ap₂, _∙_, subst}
 use mathlib.Core.Bool.{Bool, true, false, _&&_, Bool·beq, true≢false, false≢true}
 use mathlib.Core.List.{List}
 use Prim.Native.Nat.{ℕ, suc, _<_, _≤_, _+_, _-_, _^_}
@@ -65,27 +65,32 @@ module _ (s : Shape) (labels entries : List ℕ) (set chosen : ℕ) (H : Prime (
   }
 
 module _ (s : Shape) (labels entries : List ℕ) (t set : ℕ) where
-  -- The set is open with at most t participants, or closed with more, or keeps the threshold.
-  module _ (inside : set < 2 ^ s .n) where
-    set-few : true ≡ leb (ones set) t → size (s .n) set ≤ t
-    set-few e = let o = ones-size (s .n) set inside in let l = leb-true (ones set) t (sym e) in omega arith
+  -- What the test of the size says of the set.
+  module _ (inside : set < 2 ^ s .n) (opens broken : Bool) (told : Told s labels entries set opens)
+      (test : broken ≡ Bool·beq opens (leb (ones set) t)) where
+    at-most : leb (ones set) t ≡ true → size (s .n) set ≤ t
+    at-most e = let o = ones-size (s .n) set inside in let l = leb-true (ones set) t e in omega arith
 
-    set-enough : false ≡ leb (ones set) t → t + 1 ≤ size (s .n) set
-    set-enough e = let o = ones-size (s .n) set inside in let l = leb-false (ones set) t (sym e) in omega arith
+    more : leb (ones set) t ≡ false → t + 1 ≤ size (s .n) set
+    more e = let o = ones-size (s .n) set inside in let l = leb-false (ones set) t e in omega arith
 
-    pub set-keeps : (opens few : Bool) → Told s labels entries set opens → few ≡ leb (ones set) t → Bool·beq opens few ≡ false
-        → Keeps s labels entries t set
-    set-keeps true true a e h = absurd (true≢false h)
-    set-keeps true false a e h = ((λ o. set-enough e), λ l. a .if-open refl)
-    set-keeps false true a e h = ((λ o. absurd (a .if-closed refl o)), λ l. let f = set-few e in absurd (omega arith))
-    set-keeps false false a e h = absurd (true≢false h)
+    pub set-keeps : broken ≡ false → Keeps s labels entries t set
+    set-keeps h = go opens (leb (ones set) t) refl refl
+      where
+        go : (o few : Bool) → opens ≡ o → leb (ones set) t ≡ few → Keeps s labels entries t set
+        go true true x y = absurd (true≢false (sym (test ∙ ap₂ Bool·beq x y) ∙ h))
+        go true false x y = ((λ _. more y), λ _. told .if-open x)
+        go false true x y = ((λ o. absurd (told .if-closed x o)), λ l. let f = at-most y in absurd (omega arith))
+        go false false x y = absurd (true≢false (sym (test ∙ ap₂ Bool·beq x y) ∙ h))
 
-    pub set-breaks : (opens few : Bool) → Told s labels entries set opens → few ≡ leb (ones set) t → Bool·beq opens few ≡ true
-        → Keeps s labels entries t set → ⊥
-    set-breaks true true a e h k = let l = k .0 (a .if-open refl) in let f = set-few e in omega arith
-    set-breaks true false a e h k = absurd (false≢true h)
-    set-breaks false true a e h k = absurd (false≢true h)
-    set-breaks false false a e h k = a .if-closed refl (k .1 (set-enough e))
+    pub set-breaks : broken ≡ true → Keeps s labels entries t set → ⊥
+    set-breaks h k = go opens (leb (ones set) t) refl refl
+      where
+        go : (o few : Bool) → opens ≡ o → leb (ones set) t ≡ few → ⊥
+        go true true x y = let l = k .0 (told .if-open x) in let f = at-most y in omega arith
+        go true false x y = false≢true (sym (test ∙ ap₂ Bool·beq x y) ∙ h)
+        go false true x y = false≢true (sym (test ∙ ap₂ Bool·beq x y) ∙ h)
+        go false false x y = told .if-closed x (k .1 (more y))
 
   pub search-on : KeptBelow s labels entries t set → Keeps s labels entries t set → KeptBelow s labels entries t (set + 1)
   search-on b k = record { keep = λ lower l. below-suc (Keeps s labels entries t) set (b .keep) k lower (omega arith) }

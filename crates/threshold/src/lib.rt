@@ -1,8 +1,9 @@
 // The threshold verdict: is each set open exactly if it has at least t + 1 participants?
 use scheme::Shape;
 ghost use mathlib.Core.Path.{_≡_};
+ghost use mathlib.Core.Bool.{Bool·beq};
 ghost use Prim.Native.Nat.{ℕ, _<_, _≤_, _+_, _*_, _^_};
-ghost use lib.Dec.{eqb};
+ghost use lib.Dec.{eqb, leb};
 ghost use lib.ListN.{length, getD};
 ghost use Rattle.residue.specs.Prime.{Prime};
 ghost use Rattle.scheme.specs.Refusal.{thresholdRefusal};
@@ -46,6 +47,14 @@ fn is_target(e: usize, v: &[u32; 27]) -> bool
     (c as usize) + 1 == e
 }
 
+// Whether a set of that size breaks the threshold t: open with too few participants, or closed with enough.
+fn breaks(opens: bool, size: u32, t: u32) -> bool
+    ensures { λ r. ⌜ r ≡ Bool·beq opens (leb size t) ⌝ }
+{
+    let few = size <= t;
+    opens == few
+}
+
 // The first set number that breaks the threshold t; 2 to the n where none does.
 fn first_breaking(s: Shape, labels: &[u32], entries: &[u32], t: u32) -> u32
     requires { ⌜ Prime (s .p) ⌝ }
@@ -78,9 +87,7 @@ fn first_breaking(s: Shape, labels: &[u32], entries: &[u32], t: u32) -> u32
             lines = rows::store(s.e, lines, v, &mut table);
             k += 1;
         };
-        // Open with too few participants, or closed with enough.
-        let few = u32::count_ones(set) <= t;
-        if opens == few {
+        if breaks(opens, u32::count_ones(set), t) {
             break 'sets set;
         }
         set += 1;

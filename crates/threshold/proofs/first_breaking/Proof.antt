@@ -12,12 +12,14 @@ use Rattle.linear.specs.Flat.{entry}
 use Rattle.rows.specs.State.{Unmet}
 use Rattle.rows.proofs.Turns.{store-room}
 use Rattle.rows.proofs.Verdict.{unmet-start, unmet-next}
-use Rattle.threshold.proofs.Search.{KeptBelow, Told, not-here, told-closed, told-open, set-keeps, set-breaks, search-start, search-on, search-found, search-end}
+use Rattle.threshold.proofs.Search.{KeptBelow, Told, not-here, told-closed, told-open, set-keeps, set-breaks}
+use Rattle.threshold.proofs.Search.{search-start, search-on, search-found, search-end}
 use Rattle.threshold.proofs.first_breaking.Statement.{statement}
 use Rattle.threshold.proofs.first_breaking.Tie as tie
 
 abbrev Inv-rows : tie.InvT-rows
-Inv-rows s labels entries t inv end set chosen table₀ lines₀ k₀ table lines k = (k ≤ s .d) × Unmet (s .p) (s .e - 1) (entry (s .e) entries) (bit chosen) k lines table
+Inv-rows s labels entries t inv end set chosen table₀ lines₀ k₀ table lines k = (k ≤ s .d)
+    × Unmet (s .p) (s .e - 1) (entry (s .e) entries) (bit chosen) k lines table
 
 abbrev μ-rows : tie.MeasureT-rows
 μ-rows s labels entries t inv end set chosen table₀ lines₀ k₀ table lines k = s .d - k
@@ -114,6 +116,9 @@ rows-again c =
           (not-here (c .before .before .before .is-target .ensures) (c .before .before .if3 .left)) (c .store .ensures),
     )
 
+breaks-requires : tie.Need-breaks-requires Inv-rows μ-rows Inv-sets μ-sets
+breaks-requires c κs = tt
+
 add-set : tie.Need-add-set Inv-rows μ-rows Inv-sets μ-sets
 add-set c = search needs
 
@@ -122,22 +127,23 @@ sets-less c = search needs
 
 sets-again : tie.Need-sets-again Inv-rows μ-rows Inv-sets μ-sets
 sets-again c =
-    let s = c .before .before .before .before .before .before .before .before .before .before .before .before in
-    let set = c .before .before .before .before .before .before .before .sets .set in
-    let inside : set < 2 ^ s .args .s .n = omega (arith, c .before .before .before .before .before .before .before .before .sets-end .ensures) in
-    let l = c .before .before .before .rows in
-    let chosen = c .before .before .before .before .before .chosen-rows in
-    let told : Told (s .args .s) (s .args .labels .now) (s .args .entries .now) set (c .before .if2 .opens) = ⊎-elim
+    let s = c .before .before .before .before .before .before .before .before .before .before .before .before .before in
+    let set = c .before .before .before .before .before .before .before .before .sets .set in
+    let inside : set < 2 ^ s .args .s .n = omega (arith, c .before .before .before .before .before .before .before .before .before .sets-end .ensures) in
+    let l = c .before .before .before .before .rows in
+    let chosen = c .before .before .before .before .before .before .chosen-rows in
+    let told : Told (s .args .s) (s .args .labels .now) (s .args .entries .now) set (c .before .before .if2 .opens) = ⊎-elim
     (λ w. told-closed (s .args .s) (s .args .labels .now) (s .args .entries .now) set (chosen .result) (s .pre .0) (s .pre .1 .0 .2)
-    (s .pre .1 .0 .3) (s .pre .1 .0 .4) (chosen .ensures .0) (l .k) (l .lines) (l .table) (l .inv .1) (c .before .if2 .opens) (omega (arith, w .0 .taken, l .inv .0)) (w .1))
+    (s .pre .1 .0 .3) (s .pre .1 .0 .4) (chosen .ensures .0) (l .k) (l .lines) (l .table) (l .inv .1) (c .before .before .if2 .opens)
+    (omega (arith, w .0 .taken, l .inv .0)) (w .1))
     (λ w. told-open (s .args .s) (s .args .labels .now) (s .args .entries .now) set (chosen .result) (s .pre .0) (s .pre .1 .0 .2)
-    (s .pre .1 .0 .3) (s .pre .1 .0 .4) (chosen .ensures .0) (l .k) (l .lines) (l .table) (l .inv .1) (c .before .if2 .opens) (w .2 .result) (w .4 .result)
-    (w .0 .left) (w .2 .ensures) (w .4 .ensures) (w .5 .taken) (w .6))
-    (c .before .if2 .came) in (
+    (s .pre .1 .0 .3) (s .pre .1 .0 .4) (chosen .ensures .0) (l .k) (l .lines) (l .table) (l .inv .1) (c .before .before .if2 .opens)
+    (w .2 .result) (w .4 .result) (w .0 .left) (w .2 .ensures) (w .4 .ensures) (w .5 .taken) (w .6))
+    (c .before .before .if2 .came) in (
       omega arith,
-      search-on (s .args .s) (s .args .labels .now) (s .args .entries .now) (s .args .t) set (c .before .before .before .before .before .before .before .sets .inv .1)
-          (set-keeps (s .args .s) (s .args .labels .now) (s .args .entries .now) (s .args .t) set inside (c .before .if2 .opens) _ told refl
-          (c .if4 .left)),
+      search-on (s .args .s) (s .args .labels .now) (s .args .entries .now) (s .args .t) set (c .before .before .before .before .before .before .before .before .sets .inv .1)
+          (set-keeps (s .args .s) (s .args .labels .now) (s .args .entries .now) (s .args .t) set inside (c .before .before .if2 .opens)
+          (c .before .breaks .result) told (c .before .breaks .ensures) (c .if4 .left)),
     )
 
 returns : tie.Need-returns Inv-rows μ-rows Inv-sets μ-sets
@@ -148,21 +154,22 @@ returns c =
 
 returns-2 : tie.Need-returns-2 Inv-rows μ-rows Inv-sets μ-sets
 returns-2 c =
-    let s = c .before .before .before .before .before .before .before .before .before .before .before .before in
-    let set = c .before .before .before .before .before .before .before .sets .set in
-    let inside : set < 2 ^ s .args .s .n = omega (arith, c .before .before .before .before .before .before .before .before .sets-end .ensures) in
-    let l = c .before .before .before .rows in
-    let chosen = c .before .before .before .before .before .chosen-rows in
-    let told : Told (s .args .s) (s .args .labels .now) (s .args .entries .now) set (c .before .if2 .opens) = ⊎-elim
+    let s = c .before .before .before .before .before .before .before .before .before .before .before .before .before in
+    let set = c .before .before .before .before .before .before .before .before .sets .set in
+    let inside : set < 2 ^ s .args .s .n = omega (arith, c .before .before .before .before .before .before .before .before .before .sets-end .ensures) in
+    let l = c .before .before .before .before .rows in
+    let chosen = c .before .before .before .before .before .before .chosen-rows in
+    let told : Told (s .args .s) (s .args .labels .now) (s .args .entries .now) set (c .before .before .if2 .opens) = ⊎-elim
     (λ w. told-closed (s .args .s) (s .args .labels .now) (s .args .entries .now) set (chosen .result) (s .pre .0) (s .pre .1 .0 .2)
-    (s .pre .1 .0 .3) (s .pre .1 .0 .4) (chosen .ensures .0) (l .k) (l .lines) (l .table) (l .inv .1) (c .before .if2 .opens) (omega (arith, w .0 .taken, l .inv .0)) (w .1))
+    (s .pre .1 .0 .3) (s .pre .1 .0 .4) (chosen .ensures .0) (l .k) (l .lines) (l .table) (l .inv .1) (c .before .before .if2 .opens)
+    (omega (arith, w .0 .taken, l .inv .0)) (w .1))
     (λ w. told-open (s .args .s) (s .args .labels .now) (s .args .entries .now) set (chosen .result) (s .pre .0) (s .pre .1 .0 .2)
-    (s .pre .1 .0 .3) (s .pre .1 .0 .4) (chosen .ensures .0) (l .k) (l .lines) (l .table) (l .inv .1) (c .before .if2 .opens) (w .2 .result) (w .4 .result)
-    (w .0 .left) (w .2 .ensures) (w .4 .ensures) (w .5 .taken) (w .6))
-    (c .before .if2 .came) in
-    search-found (s .args .s) (s .args .labels .now) (s .args .entries .now) (s .args .t) set inside (c .before .before .before .before .before .before .before .sets .inv .1)
-    (set-breaks (s .args .s) (s .args .labels .now) (s .args .entries .now) (s .args .t) set inside (c .before .if2 .opens) _ told refl
-    (c .if4 .taken))
+    (s .pre .1 .0 .3) (s .pre .1 .0 .4) (chosen .ensures .0) (l .k) (l .lines) (l .table) (l .inv .1) (c .before .before .if2 .opens)
+    (w .2 .result) (w .4 .result) (w .0 .left) (w .2 .ensures) (w .4 .ensures) (w .5 .taken) (w .6))
+    (c .before .before .if2 .came) in
+    search-found (s .args .s) (s .args .labels .now) (s .args .entries .now) (s .args .t) set inside (c .before .before .before .before .before .before .before .before .sets .inv .1)
+    (set-breaks (s .args .s) (s .args .labels .now) (s .args .entries .now) (s .args .t) set inside (c .before .before .if2 .opens)
+    (c .before .breaks .result) told (c .before .breaks .ensures) (c .if4 .taken))
 
 pub first-breaking-spec : {M : Type 1} → statement M
 first-breaking-spec =
@@ -184,6 +191,7 @@ first-breaking-spec =
     add-k
     rows-less
     rows-again
+    breaks-requires
     add-set
     sets-less
     sets-again
