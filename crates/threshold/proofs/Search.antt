@@ -39,7 +39,8 @@ not-here {here} {x} {y} e h q = true≢false (sym (eq-eqb x y q) ∙ sym e ∙ h
 
 -- The inner loop ends at its k-th row, with no pivot at the last place so far.
 module _ (s : Shape) (labels entries : List ℕ) (set chosen : ℕ) (H : Prime (s .p)) (low : 1 ≤ s .e) (high : s .e ≤ 12)
-    (n : length labels ≡ s .d) (bits : (k : ℕ) → k < length labels → bit chosen k ≡ ofSet set labels k) (k lines : ℕ) (table : List (List ℕ))
+    (n : length labels ≡ s .d) (bits : (k : ℕ) → k < length labels → bit chosen k ≡ ofSet set labels k) (k lines : ℕ)
+    (table : List (List ℕ))
     (g : Unmet (s .p) (s .e - 1) (entry (s .e) entries) (bit chosen) k lines table) (opens : Bool) where
   columns : s .e ≡ suc (s .e - 1)
   columns = omega arith

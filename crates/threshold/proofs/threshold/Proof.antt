@@ -32,14 +32,16 @@ returns-2 : tie.Need-returns-2
 returns-2 c =
     let s = c .before .before .before .before .before .before .before in
     says-no (s .args .s) (s .args .labels .now) (s .args .entries .now) (s .args .t) _
-    (gone (c .before .before .before .before .threshold-refusal .ensures) (c .before .before .before .if1 .left)) (c .before .before .first-breaking .ensures)
+    (gone (c .before .before .before .before .threshold-refusal .ensures) (c .before .before .before .if1 .left))
+    (c .before .before .first-breaking .ensures)
     (omega (arith, c .if2 .taken, c .before .sets-end .ensures))
 
 returns-3 : tie.Need-returns-3
 returns-3 c =
     let s = c .before .before .before .before .before .before .before in
     says-yes (s .args .s) (s .args .labels .now) (s .args .entries .now) (s .args .t) (c .before .before .first-breaking .result)
-    (gone (c .before .before .before .before .threshold-refusal .ensures) (c .before .before .before .if1 .left)) (c .before .before .first-breaking .ensures)
+    (gone (c .before .before .before .before .threshold-refusal .ensures) (c .before .before .before .if1 .left))
+    (c .before .before .first-breaking .ensures)
     (omega (arith, c .if2 .left, c .before .sets-end .ensures))
 
 pub threshold-spec : {M : Type 1} → statement M
