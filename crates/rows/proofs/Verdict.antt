@@ -30,7 +30,7 @@ use Rattle.echelon.specs.Basis.{Line, Basis}
 use Rattle.echelon.specs.Order.{goal, matrix}
 use Rattle.echelon.proofs.Order.{to-order, from-order}
 use Rattle.echelon.proofs.Steps.{pinned}
-use Rattle.lines.specs.Line.{Lows, at}
+use Rattle.lines.specs.Line.{Lows}
 use Rattle.backward.specs.Solution.{linesOf}
 use Rattle.rows.specs.State.{workOf, State, Unmet, Next}
 use Rattle.rows.proofs.Turns.{Stored, state-start, state-next, pivots-next, store-room}

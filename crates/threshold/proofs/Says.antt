@@ -11,7 +11,7 @@ use Rattle.algebra.proofs.Cases.{same?, apart}
 use Rattle.scheme.specs.declared.Shape.{Shape}
 use Rattle.scheme.specs.Tests.{unless}
 use Rattle.scheme.specs.Refusal.{refusalOf, thresholdRefusal, IsScheme}
-use Rattle.scheme.specs.Threshold.{IsThreshold, FirstBreaking}
+use Rattle.scheme.specs.Threshold.{FirstBreaking}
 use Rattle.scheme.proofs.Refusals.{refusal-more, orElse-zero, Valid, valid}
 use Rattle.threshold.specs.declared.Verdict.{Verdict}
 use Rattle.threshold.specs.declared.Verdict.the-variants.{Yes, No, Refused}

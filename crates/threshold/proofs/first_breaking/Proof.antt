@@ -1,7 +1,7 @@
 -- `threshold::first_breaking` meets its contract. The outer loop keeps `KeptBelow` (proofs/Search.antt), the inner one `Unmet`
 -- (rows/specs/State.antt).
 -- Assumes nothing.
-use mathlib.Core.Path.{_≡_, refl}
+use mathlib.Core.Path.{_≡_}
 use mathlib.Core.Logic.{⊎-elim}
 use Prim.Native.Nat.{suc, _≤_, _<_, _-_, _^_}
 use native.Mathlib.Omega.{arith}

@@ -1,7 +1,7 @@
 -- `threshold::sets_end` meets its contract: 2 to the n has no more than 17 bits.
 -- Assumes nothing.
-use mathlib.Core.Path.{ap, _∙_}
-use Prim.Native.Nat.{ℕ, _≤_, _*_, _%_, _^_}
+use mathlib.Core.Path.{_∙_}
+use Prim.Native.Nat.{_≤_, _*_, _^_}
 use native.Mathlib.Nat.{mod-eq-of-lt}
 use native.Mathlib.Omega.{arith}
 use lib.Pow.{pow-mono}
