@@ -91,8 +91,8 @@ fits-in-requires c κs =
     let n = area (s .args .d) (s .args .e) (q .1) (q .3) in (
       s .pre .0,
       (
+        q .0,
         q .1,
-        q .3,
         q .4,
         q .5,
         part-length _ 384 (c .before .before .before .before .before .before .before .before .before .before .before .table .result)
