@@ -1,12 +1,12 @@
 -- Parts of a list: its first numbers; the rows of a table after the first.
 -- Assumes nothing.
-use mathlib.Core.Path.{_≡_, refl, ap, _∙_}
+use mathlib.Core.Path.{_≡_, refl, ap, subst⁻¹, _∙_}
 use mathlib.Core.Bool.{Bool}
-use mathlib.Core.List.{List}
+use mathlib.Core.List.{List, _++_}
 use Prim.Native.Nat.{ℕ, suc, _+_, _-_, _*_, _<_, _≤_}
 use native.Mathlib.Omega.{arith}
 use lib.ListN.{length, take, drop, length-take, length-drop}
-use lib.Seq.{getD-take, getD-drop}
+use lib.Seq.{getD-take, getD-drop, take-at}
 use Rattle.lists.proofs.Store.{row-fits}
 use Rattle.linear.specs.Flat.{place, entry}
 use Rattle.linear.proofs.Numbers.{coefficients-same, none-same}
@@ -39,10 +39,12 @@ module _ (d e : ℕ) (rows : List ℕ) (some : 1 ≤ e) (size : length rows ≡ 
   first-at : (k : ℕ) → k < d → place (take (d - 0) rows) k ≡ place rows k
   first-at k l = getD-take (d - 0) rows k 0 (omega arith)
 
-  pub others-give : (p : ℕ) (r : Bool) (c : List ℕ) → Found p (e - 1) d others (take (d - 0) rows) r c → OthersGive p d e rows r c
-  others-give p r c f = record {
-    yes = λ q. coefficients-same p d (e - 1) (entry d others) (λ j. entry d rows (suc j)) others-at (place (take (d - 0) rows)) (place rows)
-        (place c) (place c) first-at (λ k l. refl) (f .yes q);
-    no = λ q. none-same p d (e - 1) (entry d others) (λ j. entry d rows (suc j)) others-at (place (take (d - 0) rows)) (place rows) first-at
-        (f .no q);
-  }
+  -- c is lent as the front of a list, which goes on with `rest`.
+  pub others-give : (p : ℕ) (r : Bool) (c rest : List ℕ) → length c ≡ e - 1 → Found p (e - 1) d others (take (d - 0) rows) r c
+      → OthersGive p d e rows r (take (e - 1) (c ++ rest))
+  others-give p r c rest q f = subst⁻¹ (OthersGive p d e rows r) (take-at c rest (e - 1) q) (record {
+    yes = λ w. coefficients-same p d (e - 1) (entry d others) (λ j. entry d rows (suc j)) others-at (place (take (d - 0) rows)) (place rows)
+        (place c) (place c) first-at (λ k l. refl) (f .yes w);
+    no = λ w. none-same p d (e - 1) (entry d others) (λ j. entry d rows (suc j)) others-at (place (take (d - 0) rows)) (place rows) first-at
+        (f .no w);
+  })

@@ -3,7 +3,7 @@
 ghost use mathlib.Core.Path.{_≡_};
 ghost use mathlib.Core.List.{_∷_};
 ghost use Prim.Native.Nat.{ℕ, _<_, _≤_, _+_, _-_, _*_};
-ghost use lib.ListN.{length};
+ghost use lib.ListN.{length, take};
 ghost use Rattle.residue.specs.Prime.{Prime};
 ghost use Rattle.linear.specs.Flat.{place, entry};
 ghost use Rattle.linear.specs.Rows.{Open, OpeningVector, Handed};
@@ -77,8 +77,8 @@ fn one_before(c: &[u32], z: &mut [u32])
     z[0] = 1;
 }
 
-// Whether the first of e rows of d numbers is a combination of the others; where it is, `c` becomes its coefficients.
-// `duals`, `t` and `u` are working space.
+// Whether the first of e rows of d numbers is a combination of the others; where it is, `c` begins with its coefficients.
+// `duals`, `t`, `u` and the last place of `c` are working space.
 fn others_give(
     p: u32,
     d: usize,
@@ -90,18 +90,19 @@ fn others_give(
     c: &mut [u32],
 ) -> bool
     requires { ⌜ Prime p ⌝ }
-    requires { ⌜ (1 ≤ e) × (length (now rows) ≡ e * d) × (length (now duals) ≡ e * d) × (length (now t) ≡ d) × (length (now u) ≡ d)
-        × (length (now c) ≡ e - 1) ⌝ }
-    ensures answer { λ r. ⌜ OthersGive p d e (now (rows .entry)) r (now (c .exit)) ⌝ }
+    requires { ⌜ (1 ≤ e) × (length (now rows) ≡ e * d) × (length (now duals) ≡ e * d) × (d ≤ length (now t)) × (d ≤ length (now u))
+        × (length (now c) ≡ e) ⌝ }
+    ensures answer { λ r. ⌜ OthersGive p d e (now (rows .entry)) r (take (e - 1) (now (c .exit))) ⌝ }
     ensures sizes { λ r. ⌜ (length (now (duals .exit)) ≡ length (now (duals .entry))) × (length (now (t .exit)) ≡ length (now (t .entry)))
         × (length (now (u .exit)) ≡ length (now (u .entry))) × (length (now (c .exit)) ≡ length (now (c .entry))) ⌝ }
 {
     let n = e * d;
-    combination::find(p, e - 1, d, &rows[d..n], &rows[0..d], duals, t, u, c)
+    let m = e - 1;
+    combination::find(p, m, d, &rows[d..n], &rows[0..d], duals, &mut t[0..d], &mut u[0..d], &mut c[0..m])
 }
 
-// Whether the rows are closed: whether the first column, negated, is a combination of the others. Where it is, 1 followed by `c` is the
-// witness. `columns`, `duals`, `t` and `u` are working space.
+// Whether the rows are closed: whether the first column, negated, is a combination of the others. Where it is, `c` begins with what
+// follows the 1 of the witness. `columns`, `duals`, `t` and `u` are working space.
 fn closes(
     p: u32,
     d: usize,
@@ -115,8 +116,8 @@ fn closes(
 ) -> bool
     requires { ⌜ Prime p ⌝ }
     requires { ⌜ (1 ≤ e) × (length (now table) ≡ d * e) × (length (now columns) ≡ e * d) × (length (now duals) ≡ e * d)
-        × (length (now t) ≡ d) × (length (now u) ≡ d) × (length (now c) ≡ e - 1) ⌝ }
-    ensures answer { λ r. ⌜ Closing p d e (now (table .entry)) r (now (c .exit)) ⌝ }
+        × (d ≤ length (now t)) × (d ≤ length (now u)) × (length (now c) ≡ e) ⌝ }
+    ensures answer { λ r. ⌜ Closing p d e (now (table .entry)) r (take (e - 1) (now (c .exit))) ⌝ }
     ensures sizes { λ r. ⌜ (length (now (columns .exit)) ≡ length (now (columns .entry)))
         × (length (now (duals .exit)) ≡ length (now (duals .entry))) × (length (now (t .exit)) ≡ length (now (t .entry)))
         × (length (now (u .exit)) ≡ length (now (u .entry))) × (length (now (c .exit)) ≡ length (now (c .entry))) ⌝ }
@@ -140,7 +141,7 @@ fn weigh(
 )
     requires { ⌜ Prime p ⌝ }
     requires { ⌜ (1 ≤ e) × (length (now table) ≡ d * e) × (length (now goal) ≡ e) × (length (now duals) ≡ e * d)
-        × (length (now t) ≡ e) × (length (now u) ≡ e) × (length (now r) ≡ d) ⌝ }
+        × (e ≤ length (now t)) × (e ≤ length (now u)) × (length (now r) ≡ d) ⌝ }
     requires { ⌜ Open p d e (entry e (now table)) every ⌝ }
     ensures answer { λ _. ⌜ OpeningVector p d e (entry e (now (table .entry))) every (place (now (r .exit))) ⌝ }
     ensures sizes { λ _. ⌜ (length (now (goal .exit)) ≡ length (now (goal .entry)))
@@ -148,5 +149,40 @@ fn weigh(
         × (length (now (u .exit)) ≡ length (now (u .entry))) × (length (now (r .exit)) ≡ length (now (r .entry))) ⌝ }
 {
     aim(e, goal);
-    combination::find(p, d, e, table, goal, duals, t, u, r);
+    combination::find(p, d, e, table, goal, duals, &mut t[0..e], &mut u[0..e], r);
+}
+
+// Whether the rows of a table of d rows of e numbers are open: then `r` becomes the vector; else `z` becomes the witness, and the other
+// list stays. The other lists are working space. Wrong answers that the contract rules out: `true` for rows of which the target is no
+// combination; a weight at a row that is a combination of those kept before it; a witness that some row does not kill.
+pub fn ask(
+    p: u32,
+    d: usize,
+    e: usize,
+    table: &[u32],
+    columns: &mut [u32],
+    duals: &mut [u32],
+    t: &mut [u32],
+    u: &mut [u32],
+    c: &mut [u32],
+    r: &mut [u32],
+    z: &mut [u32],
+) -> bool
+    requires { ⌜ Prime p ⌝ }
+    requires { ⌜ (1 ≤ e) × (length (now table) ≡ d * e) × (length (now columns) ≡ e * d) × (length (now duals) ≡ e * d)
+        × (d ≤ length (now t)) × (e ≤ length (now t)) × (d ≤ length (now u)) × (e ≤ length (now u)) × (length (now c) ≡ e)
+        × (length (now r) ≡ d) × (length (now z) ≡ e) ⌝ }
+    ensures answer { λ o. ⌜ Handed p d e (entry e (now (table .entry))) every (now (r .entry)) (now (z .entry)) o (now (r .exit))
+        (now (z .exit)) ⌝ }
+    ensures sizes { λ o. ⌜ (length (now (columns .exit)) ≡ length (now (columns .entry)))
+        × (length (now (duals .exit)) ≡ length (now (duals .entry))) × (length (now (t .exit)) ≡ length (now (t .entry)))
+        × (length (now (u .exit)) ≡ length (now (u .entry))) × (length (now (c .exit)) ≡ length (now (c .entry))) ⌝ }
+{
+    if closes(p, d, e, table, columns, duals, t, u, c) {
+        let m = e - 1;
+        one_before(&c[0..m], z);
+        return false;
+    }
+    weigh(p, d, e, table, c, duals, t, u, r);
+    true
 }

@@ -12,11 +12,11 @@ use Rattle.tables.proofs.negate.Reads as negate-reads
 use Rattle.tables.proofs.others_give.Reads as others-give-reads
 use Rattle.tables.proofs.turn.Reads as turn-reads
 
--- src/lib.rt:124:5
+-- src/lib.rt:125:5
 turn-requires : tie.Need-turn-requires
 turn-requires c κs = let q = c .before .before .before .before .before .before .before .pre .1 in (q .1, q .2)
 
--- src/lib.rt:125:5
+-- src/lib.rt:126:5
 negate-requires : tie.Need-negate-requires
 negate-requires c κs =
     let t = c .before .before .before in
@@ -24,7 +24,7 @@ negate-requires c κs =
     let q = s .pre .1 in
     (positive _ (s .pre .0), omega (arith, t .turn .ensures .0, q .2, first-fits (s .args .d) (s .args .e) (q .0)))
 
--- src/lib.rt:126:5
+-- src/lib.rt:127:5
 others-give-requires : tie.Need-others-give-requires
 others-give-requires c κs =
     let n = c .before .before .before .before .before .before .before in
@@ -33,36 +33,35 @@ others-give-requires c κs =
     let q = s .pre .1 in
     (s .pre .0, (q .0, n .negate .ensures .size ∙ t .turn .ensures .0 ∙ q .2, q .3, q .4, q .5, q .6))
 
--- src/lib.rt:105:1
+-- src/lib.rt:106:1
 same-length : tie.Need-same-length
-same-length c = c .before .before .before .before .before .before .before .before .before .before .before .before .before .before .before .before .negate .ensures .size ∙ c .before .before .before .before .before .before .before .before .before .before .before .before .before .before .before .before .before .before .before .before .turn .ensures .0
+same-length c = search needs
 
--- src/lib.rt:105:1
+-- src/lib.rt:106:1
 same-length-2 : tie.Need-same-length-2
-same-length-2 c = c .before .before .before .before .before .before .before .before .others-give .ensures .1 .0
+same-length-2 c = search needs
 
--- src/lib.rt:105:1
+-- src/lib.rt:106:1
 same-length-3 : tie.Need-same-length-3
-same-length-3 c = c .before .before .before .before .before .before .before .before .others-give .ensures .1 .1
+same-length-3 c = search needs
 
--- src/lib.rt:105:1
+-- src/lib.rt:106:1
 same-length-4 : tie.Need-same-length-4
-same-length-4 c = c .before .before .before .before .before .before .before .before .others-give .ensures .1 .2
+same-length-4 c = search needs
 
--- src/lib.rt:105:1
+-- src/lib.rt:106:1
 same-length-5 : tie.Need-same-length-5
-same-length-5 c = c .before .before .before .before .before .before .before .before .others-give .ensures .1 .3
+same-length-5 c = search needs
 
--- src/lib.rt:105:1
+-- src/lib.rt:106:1
 returns : tie.Need-returns
 returns c =
     let o = c .before .before .before .before .before .before .before .before in
     let n = o .before .before .before .before .before .before .before .before in
     let t = n .before .before .before .before in
-    let s = t .before .before .before .before .before .before .before .before in
-    let z = o .others-give .ensures .1 in (
+    let s = t .before .before .before .before .before .before .before .before in (
       closing _ (s .pre .0) _ _ (s .pre .1 .0) _ _ _ _ _ (t .turn .ensures .1) (n .negate .ensures) (o .others-give .ensures .0),
-      (n .negate .ensures .size ∙ t .turn .ensures .0, z .0, z .1, z .2, z .3),
+      (same-length c, same-length-2 c, same-length-3 c, same-length-4 c, same-length-5 c),
     )
 
 pub closes-spec : {M : Type 1} → statement M
