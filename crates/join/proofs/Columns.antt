@@ -3,10 +3,10 @@
 use mathlib.Core.Path.{_≡_, refl, sym, ap, _∙_}
 use mathlib.Core.Bool.{Bool, true, false, cond}
 use mathlib.Core.List.{List}
-use Prim.Native.Nat.{ℕ, _+_, _*_, _%_, _<_, _≤_, _-_}
+use Prim.Native.Nat.{ℕ, _+_, _*_, _%_, _<_, _≤_}
 use native.Mathlib.Nat.{mul-comm, mul-le-mul, mul-add-mod-self-right, mod-eq-of-lt}
 use native.Mathlib.Omega.{arith}
-use lib.ListN.{length, take, length-take}
+use lib.ListN.{length}
 use Rattle.lists.proofs.Store.{row-fits}
 use Rattle.linear.specs.Combination.{total}
 use Rattle.linear.specs.Flat.{place, entry}
@@ -59,7 +59,3 @@ module _ (p d e chosen : ℕ) (entries shares all columns goal : List ℕ) (wide
 -- The working space.
 pub area : (d e : ℕ) → d ≤ 32 → e ≤ 12 → e * d ≤ 384
 area d e ld le = mul-le-mul {n₁ = e} {m₁ = d} {n₂ = 12} {m₂ = 32} le ld
-
--- The first n places of a list.
-pub part-length : (n a : ℕ) (xs : List ℕ) → length xs ≡ a → n ≤ a → length (take (n - 0) xs) ≡ n
-part-length n a xs q l = length-take (n - 0) xs ∙ omega arith

@@ -2,7 +2,7 @@
 use scheme::Shape;
 ghost use mathlib.Core.Path.{_≡_};
 ghost use mathlib.Core.Bool.{cond};
-ghost use Prim.Native.Nat.{ℕ, _<_, _≤_, _+_, _*_, _%_};
+ghost use Prim.Native.Nat.{ℕ, _<_, _≤_, _*_, _%_};
 ghost use lib.ListN.{length, getD};
 ghost use Rattle.residue.specs.Prime.{Prime};
 ghost use Rattle.linear.specs.Combination.{total};

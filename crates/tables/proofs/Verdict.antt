@@ -1,12 +1,13 @@
 -- All rows of a table: what the one question for its columns says, and what it says for its rows.
 -- Assumes nothing.
-use mathlib.Core.Path.{_≡_, refl, ap, subst, _∙_}
+use mathlib.Core.Path.{_≡_, refl, ap, subst, subst⁻¹, _∙_}
 use mathlib.Core.Bool.{Bool, true, false}
 use mathlib.Core.List.{List, _∷_}
 use mathlib.Core.Logic.{⊎-elim}
 use Prim.Native.Nat.{ℕ, zero, suc, _+_, _-_, _*_, _%_, _<_, _≤_}
 use native.Mathlib.Nat.{not-suc-le-zero}
 use native.Mathlib.Omega.{arith}
+use lib.ListN.{length, take, length-take}
 use Rattle.residue.specs.Prime.{Prime}
 use Rattle.linear.specs.Flat.{place, entry}
 use Rattle.linear.specs.Question.{Coefficients, NoCombination}
@@ -70,3 +71,13 @@ opened p d e table goal true r o a f = opening-unmask p e (entry e table) every 
     (a .at) (λ k l. refl) (f .yes refl))
 opened p d e table goal false r o a f = absurd
     (none-same p e d (entry e table) (entry e table) (λ k j lk lj. refl) (place goal) target (a .at) (f .no refl) .none (o .0, o .2))
+
+-- The witness: 1, then the coefficients, which are the front of c.
+pub witnessed : (p d e : ℕ) (table c z : List ℕ) (closed : Bool) → 1 ≤ e → length c ≡ e → closed ≡ true
+    → Closing p d e table closed (take (e - 1) c) → z ≡ 1 ∷ take (e - 1 - 0) c
+    → Witness p d e (entry e table) every (place z) × (length z ≡ e)
+witnessed p d e table c z closed l n w o q =
+    let front : e - 1 - 0 ≡ e - 1 = omega arith in
+    subst⁻¹ (λ (z : List ℕ). Witness p d e (entry e table) every (place z) × (length z ≡ e))
+    (q ∙ ap (λ (k : ℕ). 1 ∷ take k c) front)
+    (o .yes w, omega (arith, length-take (e - 1) c))

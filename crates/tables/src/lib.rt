@@ -98,7 +98,17 @@ fn others_give(
 {
     let n = e * d;
     let m = e - 1;
-    combination::find(p, m, d, &rows[d..n], &rows[0..d], duals, &mut t[0..d], &mut u[0..d], &mut c[0..m])
+    combination::find(
+        p,
+        m,
+        d,
+        &rows[d..n],
+        &rows[0..d],
+        duals,
+        &mut t[0..d],
+        &mut u[0..d],
+        &mut c[0..m],
+    )
 }
 
 // Whether the rows are closed: whether the first column, negated, is a combination of the others. Where it is, `c` begins with what

@@ -1,7 +1,8 @@
 -- `join::fits` meets its contract: each working list lent has its length, since d is at most 32 and e at most 12.
 -- Assumes nothing.
 use native.Mathlib.Omega.{arith}
-use Rattle.join.proofs.Columns.{area, part-length}
+use Rattle.tables.proofs.Parts.{part-length}
+use Rattle.join.proofs.Columns.{area}
 use Rattle.join.proofs.fits.Statement.{statement}
 use Rattle.join.proofs.fits.Tie as tie
 

@@ -6,7 +6,6 @@ use Prim.Native.Nat.{_-_, _%_}
 use native.Mathlib.Nat.{mod-lt}
 use native.Mathlib.Omega.{arith}
 use lib.ListN.{length}
-use borrow.Author.Needs.{needs}
 use Rattle.lists.proofs.Fill.{Filled, fill-start, fill-turn, filled}
 use Rattle.linear.specs.Bits.{bit}
 use Rattle.linear.specs.Flat.{place}

@@ -1,15 +1,14 @@
+-- `tables::aim` meets its contract: the loop fills the list with 0, and the first number becomes 1 (`aimed` of proofs/Ones.antt).
+-- Assumes nothing.
 use mathlib.Core.Path.{_∙_}
-use Rattle.tables.proofs.Ones.{aimed}
-use Rattle.lists.proofs.Fill.{Filled, fill-start, fill-turn, filled}
-use lib.ListN.{length}
-use Prim.Native.Nat.{_-_}
 use mathlib.Core.Path.{refl}
-use borrow.Author.Needs.{needs}
+use Prim.Native.Nat.{_-_}
 use native.Mathlib.Omega.{arith}
+use borrow.Author.Needs.{needs}
+use Rattle.lists.proofs.Fill.{Filled, fill-start, fill-turn, filled}
+use Rattle.tables.proofs.Ones.{aimed}
 use Rattle.tables.proofs.aim.Statement.{statement}
 use Rattle.tables.proofs.aim.Tie as tie
-use Rattle.tables.proofs.aim.Reads as reads
-use Rattle.tables.proofs.aim.Lts as lts
 
 abbrev Inv-loop : tie.InvT-loop
 Inv-loop n x₀ j₀ x j = Filled 0 n (λ i. 0) x₀ x j
@@ -17,40 +16,31 @@ Inv-loop n x₀ j₀ x j = Filled 0 n (λ i. 0) x₀ x j
 abbrev μ-loop : tie.MeasureT-loop
 μ-loop n x₀ j₀ x j = n - j
 
--- src/lib.rt:60:5
 loop-holds : tie.Need-loop-holds Inv-loop μ-loop
 loop-holds c = fill-start _ _ _ _
 
--- src/lib.rt:61:9
 mul-x : tie.Need-mul-x Inv-loop μ-loop
 mul-x c = search needs
 
--- src/lib.rt:61:9
 slice-write-x : tie.Need-slice-write-x Inv-loop μ-loop
 slice-write-x c = search needs
 
--- src/lib.rt:62:9
 add-j : tie.Need-add-j Inv-loop μ-loop
 add-j c = search needs
 
--- src/lib.rt:60:5
 loop-less : tie.Need-loop-less Inv-loop μ-loop
 loop-less c = search needs
 
--- src/lib.rt:60:5
 loop-again : tie.Need-loop-again Inv-loop μ-loop
 loop-again c =
     fill-turn _ _ _ _ _ _ _ _ (c .before .loop .inv) (c .loop-test .taken) (omega arith) (omega arith) refl
 
--- src/lib.rt:64:5
 slice-write-x-2 : tie.Need-slice-write-x-2 Inv-loop μ-loop
 slice-write-x-2 c = search needs
 
--- src/lib.rt:55:1
 same-length : tie.Need-same-length Inv-loop μ-loop
 same-length c = search needs
 
--- src/lib.rt:55:1
 returns : tie.Need-returns Inv-loop μ-loop
 returns c =
     let h = c .before .loop .inv in

@@ -1,14 +1,14 @@
-use Rattle.linear.specs.Flat.{place}
-use Rattle.lists.proofs.Fill.{Filled, fill-start, fill-turn, filled}
+-- `tables::negate` meets its contract: the loop fills the first n places with what stood there, negated.
+-- Assumes nothing.
+use mathlib.Core.Path.{ap}
+use Prim.Native.Nat.{ℕ, _-_, _%_}
 use native.Mathlib.Nat.{mod-lt}
-use Prim.Native.Nat.{ℕ, _-_, _%_, _+_}
-use mathlib.Core.Path.{ap, sym, _∙_}
-use borrow.Author.Needs.{needs}
 use native.Mathlib.Omega.{arith}
+use borrow.Author.Needs.{needs}
+use Rattle.lists.proofs.Fill.{Filled, fill-start, fill-turn, filled}
+use Rattle.linear.specs.Flat.{place}
 use Rattle.tables.proofs.negate.Statement.{statement}
 use Rattle.tables.proofs.negate.Tie as tie
-use Rattle.tables.proofs.negate.Reads as reads
-use Rattle.tables.proofs.negate.Lts as lts
 
 abbrev Inv-loop : tie.InvT-loop
 Inv-loop p n x₀ i₀ x i = Filled 0 n (λ i. p - place x₀ i % p) x₀ x i
@@ -16,45 +16,35 @@ Inv-loop p n x₀ i₀ x i = Filled 0 n (λ i. p - place x₀ i % p) x₀ x i
 abbrev μ-loop : tie.MeasureT-loop
 μ-loop p n x₀ i₀ x i = n - i
 
--- src/lib.rt:48:5
 loop-holds : tie.Need-loop-holds Inv-loop μ-loop
 loop-holds c = fill-start _ _ _ _
 
--- src/lib.rt:49:20
 mul-x : tie.Need-mul-x Inv-loop μ-loop
 mul-x c = omega (arith, c .before .loop .inv .size)
 
--- src/lib.rt:49:20
 slice-read-x : tie.Need-slice-read-x Inv-loop μ-loop
 slice-read-x c = omega (arith, c .before .before .loop .inv .size)
 
--- src/lib.rt:49:20
 rem-x : tie.Need-rem-x Inv-loop μ-loop
 rem-x c = omega arith
 
--- src/lib.rt:49:16
 sub-x : tie.Need-sub-x Inv-loop μ-loop
 sub-x c =
     let l = c .before .before .loop in
     omega (arith, mod-lt (place (l .x) (l .i)) (c .before .before .before .pre .0))
 
--- src/lib.rt:49:9
 mul-x-2 : tie.Need-mul-x-2 Inv-loop μ-loop
 mul-x-2 c = search needs
 
--- src/lib.rt:49:9
 slice-write-x : tie.Need-slice-write-x Inv-loop μ-loop
 slice-write-x c = search needs
 
--- src/lib.rt:50:9
 add-i : tie.Need-add-i Inv-loop μ-loop
 add-i c = search needs
 
--- src/lib.rt:48:5
 loop-less : tie.Need-loop-less Inv-loop μ-loop
 loop-less c = search needs
 
--- src/lib.rt:48:5
 loop-again : tie.Need-loop-again Inv-loop μ-loop
 loop-again c =
     let s = c .before .before .before in
@@ -62,11 +52,9 @@ loop-again c =
     fill-turn _ _ _ _ _ _ _ _ h (c .before .loop-test .taken) (omega arith) (omega arith)
     (ap (λ (x : ℕ). s .args .p - x % s .args .p) (h .after (c .before .before .loop .i) (omega arith)))
 
--- src/lib.rt:43:1
 same-length : tie.Need-same-length Inv-loop μ-loop
 same-length c = c .before .loop .inv .size
 
--- src/lib.rt:43:1
 returns : tie.Need-returns Inv-loop μ-loop
 returns c =
     let h = c .before .loop .inv in

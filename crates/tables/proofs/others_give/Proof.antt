@@ -1,87 +1,69 @@
-use Rattle.tables.proofs.Parts.{part-length, first-fits, others-size, others-fit, others-give}
-use Prim.Native.Nat.{_-_, _*_}
+-- `tables::others_give` meets its contract: the one question, the first row as target, the rows after it as vectors (proofs/Parts.antt).
+-- Assumes nothing.
 use mathlib.Core.Path.{refl, _∙_}
+use Prim.Native.Nat.{_-_, _*_}
 use native.Mathlib.Omega.{arith}
 use borrow.Author.Needs.{needs}
+use Rattle.tables.proofs.Parts.{part-length, first-fits, others-size, others-fit, others-give}
 use Rattle.tables.proofs.others_give.Statement.{statement}
 use Rattle.tables.proofs.others_give.Tie as tie
-use Rattle.tables.proofs.others_give.Reads as reads
-use Rattle.tables.proofs.others_give.Lts as lts
-use Rattle.combination.proofs.find.Reads as find-reads
 
--- src/lib.rt:99:13
 mul-n : tie.Need-mul-n
 mul-n c = search needs
 
--- src/lib.rt:100:13
 sub-m : tie.Need-sub-m
 sub-m c = search needs
 
--- src/lib.rt:101:32
 mul-find : tie.Need-mul-find
 mul-find c = search needs
 
--- src/lib.rt:101:32
 sub-find : tie.Need-sub-find
 sub-find c = let s = c .before .before .before .before .before in first-fits (s .args .d) (s .args .e) (s .pre .1 .0)
 
--- src/lib.rt:101:32
 part-find-start : tie.Need-part-find-start
 part-find-start c = let s = c .before .before .before .before .before in omega (arith, first-fits (s .args .d) (s .args .e) (s .pre .1 .0))
 
--- src/lib.rt:101:32
 part-find-end : tie.Need-part-find-end
 part-find-end c = search needs
 
--- src/lib.rt:101:45
 sub-find-2 : tie.Need-sub-find-2
 sub-find-2 c = search needs
 
--- src/lib.rt:101:45
 part-find-start-2 : tie.Need-part-find-start-2
 part-find-start-2 c = search needs
 
--- src/lib.rt:101:45
 part-find-end-2 : tie.Need-part-find-end-2
-part-find-end-2 c = let s = c .before .before .before .before .before .before in omega (arith, first-fits (s .args .d) (s .args .e) (s .pre .1 .0))
+part-find-end-2 c =
+    let s = c .before .before .before .before .before .before in
+    omega (arith, first-fits (s .args .d) (s .args .e) (s .pre .1 .0))
 
--- src/lib.rt:101:65
 sub-find-3 : tie.Need-sub-find-3
 sub-find-3 c = search needs
 
--- src/lib.rt:101:65
 part-find-start-3 : tie.Need-part-find-start-3
 part-find-start-3 c = search needs
 
--- src/lib.rt:101:65
 part-find-end-3 : tie.Need-part-find-end-3
 part-find-end-3 c = search needs
 
--- src/lib.rt:101:79
 sub-find-4 : tie.Need-sub-find-4
 sub-find-4 c = search needs
 
--- src/lib.rt:101:79
 part-find-start-4 : tie.Need-part-find-start-4
 part-find-start-4 c = search needs
 
--- src/lib.rt:101:79
 part-find-end-4 : tie.Need-part-find-end-4
 part-find-end-4 c = search needs
 
--- src/lib.rt:101:93
 sub-find-5 : tie.Need-sub-find-5
 sub-find-5 c = search needs
 
--- src/lib.rt:101:93
 part-find-start-5 : tie.Need-part-find-start-5
 part-find-start-5 c = search needs
 
--- src/lib.rt:101:93
 part-find-end-5 : tie.Need-part-find-end-5
 part-find-end-5 c = search needs
 
--- src/lib.rt:101:5
 find-requires : tie.Need-find-requires
 find-requires c κs =
     let s = c .before .before .before .before .before .before .before .before .before .before .before in
@@ -100,23 +82,18 @@ find-requires c κs =
       ),
     )
 
--- src/lib.rt:82:1
 same-length : tie.Need-same-length
 same-length c = search needs
 
--- src/lib.rt:82:1
 same-length-2 : tie.Need-same-length-2
 same-length-2 c = search needs
 
--- src/lib.rt:82:1
 same-length-3 : tie.Need-same-length-3
 same-length-3 c = search needs
 
--- src/lib.rt:82:1
 same-length-4 : tie.Need-same-length-4
 same-length-4 c = search needs
 
--- src/lib.rt:82:1
 returns : tie.Need-returns
 returns c =
     let f = c .before .before .before .before .before .before .before .before in

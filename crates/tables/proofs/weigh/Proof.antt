@@ -1,44 +1,34 @@
-use Rattle.tables.proofs.Verdict.{opened}
-use Rattle.tables.proofs.Parts.{part-length}
+-- `tables::weigh` meets its contract: of open rows the target is a combination, so `find` cannot say no (`opened` of proofs/Verdict.antt).
+-- Assumes nothing.
 use mathlib.Core.Path.{refl}
 use native.Mathlib.Omega.{arith}
 use borrow.Author.Needs.{needs}
+use Rattle.tables.proofs.Verdict.{opened}
+use Rattle.tables.proofs.Parts.{part-length}
 use Rattle.tables.proofs.weigh.Statement.{statement}
 use Rattle.tables.proofs.weigh.Tie as tie
-use Rattle.tables.proofs.weigh.Reads as reads
-use Rattle.tables.proofs.weigh.Lts as lts
-use Rattle.combination.proofs.find.Reads as find-reads
-use Rattle.tables.proofs.aim.Reads as aim-reads
 
--- src/lib.rt:151:5
 aim-requires : tie.Need-aim-requires
 aim-requires c κs = let q = c .before .before .before .before .before .before .before .pre .1 .0 in (q .0, q .2)
 
--- src/lib.rt:152:52
 sub-find : tie.Need-sub-find
 sub-find c = search needs
 
--- src/lib.rt:152:52
 part-find-start : tie.Need-part-find-start
 part-find-start c = search needs
 
--- src/lib.rt:152:52
 part-find-end : tie.Need-part-find-end
 part-find-end c = search needs
 
--- src/lib.rt:152:66
 sub-find-2 : tie.Need-sub-find-2
 sub-find-2 c = search needs
 
--- src/lib.rt:152:66
 part-find-start-2 : tie.Need-part-find-start-2
 part-find-start-2 c = search needs
 
--- src/lib.rt:152:66
 part-find-end-2 : tie.Need-part-find-end-2
 part-find-end-2 c = search needs
 
--- src/lib.rt:152:5
 find-requires : tie.Need-find-requires
 find-requires c κs =
     let a = c .before .before .before .before .before .before .before in
@@ -56,27 +46,21 @@ find-requires c κs =
       ),
     )
 
--- src/lib.rt:131:1
 same-length : tie.Need-same-length
 same-length c = search needs
 
--- src/lib.rt:131:1
 same-length-2 : tie.Need-same-length-2
 same-length-2 c = search needs
 
--- src/lib.rt:131:1
 same-length-3 : tie.Need-same-length-3
 same-length-3 c = search needs
 
--- src/lib.rt:131:1
 same-length-4 : tie.Need-same-length-4
 same-length-4 c = search needs
 
--- src/lib.rt:131:1
 same-length-5 : tie.Need-same-length-5
 same-length-5 c = search needs
 
--- src/lib.rt:131:1
 returns : tie.Need-returns
 returns c =
     let f = c .before .before .before .before .before .before .before .before in
