@@ -1,10 +1,9 @@
 -- `tables::aim` meets its contract: the loop fills the list with 0, and the first number becomes 1 (`aimed` of proofs/Ones.antt).
 -- Assumes nothing.
-use mathlib.Core.Path.{_∙_}
-use mathlib.Core.Path.{refl}
+use mathlib.Core.Path.{refl, _∙_}
 use Prim.Native.Nat.{_-_}
 use native.Mathlib.Omega.{arith}
-use borrow.Author.Needs.{needs}
+use lib.ListN.{length-set}
 use Rattle.lists.proofs.Fill.{Filled, fill-start, fill-turn, filled}
 use Rattle.tables.proofs.Ones.{aimed}
 use Rattle.tables.proofs.aim.Statement.{statement}
@@ -20,26 +19,26 @@ loop-holds : tie.Need-loop-holds Inv-loop μ-loop
 loop-holds c = fill-start _ _ _ _
 
 mul-x : tie.Need-mul-x Inv-loop μ-loop
-mul-x c = search needs
+mul-x c = omega arith
 
 slice-write-x : tie.Need-slice-write-x Inv-loop μ-loop
-slice-write-x c = search needs
+slice-write-x c = omega arith
 
 add-j : tie.Need-add-j Inv-loop μ-loop
-add-j c = search needs
+add-j c = omega arith
 
 loop-less : tie.Need-loop-less Inv-loop μ-loop
-loop-less c = search needs
+loop-less c = omega arith
 
 loop-again : tie.Need-loop-again Inv-loop μ-loop
 loop-again c =
     fill-turn _ _ _ _ _ _ _ _ (c .before .loop .inv) (c .loop-test .taken) (omega arith) (omega arith) refl
 
 slice-write-x-2 : tie.Need-slice-write-x-2 Inv-loop μ-loop
-slice-write-x-2 c = search needs
+slice-write-x-2 c = omega arith
 
 same-length : tie.Need-same-length Inv-loop μ-loop
-same-length c = search needs
+same-length c = let l = c .before .loop in length-set (l .x) _ _ ∙ l .inv .size
 
 returns : tie.Need-returns Inv-loop μ-loop
 returns c =

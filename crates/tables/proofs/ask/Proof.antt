@@ -2,7 +2,6 @@
 -- Assumes nothing.
 use mathlib.Core.Path.{refl, _∙_}
 use native.Mathlib.Omega.{arith}
-use borrow.Author.Needs.{needs}
 use Rattle.tables.proofs.Verdict.{witnessed}
 use Rattle.tables.proofs.ask.Statement.{statement}
 use Rattle.tables.proofs.ask.Tie as tie
@@ -23,10 +22,10 @@ part-one-before-start : tie.Need-part-one-before-start
 part-one-before-start c = omega arith
 
 part-one-before-end : tie.Need-part-one-before-end
-part-one-before-end c = search needs
+part-one-before-end c = omega arith
 
 one-before-requires : tie.Need-one-before-requires
-one-before-requires c κs = search needs
+one-before-requires c κs = omega arith
 
 same-length : tie.Need-same-length
 same-length c = c .before .before .before .before .before .before .before .before .before .before .before .before .before .before .before
@@ -49,7 +48,7 @@ same-length-5 c = c .before .before .before .before .before .before .before .bef
     .before .before .before .closes .ensures .1 .4
 
 same-length-6 : tie.Need-same-length-6
-same-length-6 c = search needs
+same-length-6 c = omega arith
 
 returns : tie.Need-returns
 returns c =

@@ -2,7 +2,6 @@
 -- Assumes nothing.
 use mathlib.Core.Path.{_∙_}
 use native.Mathlib.Omega.{arith}
-use borrow.Author.Needs.{needs}
 use Rattle.residue.proofs.Field.{positive}
 use Rattle.tables.proofs.Verdict.{closing}
 use Rattle.tables.proofs.Parts.{first-fits}
@@ -28,19 +27,19 @@ others-give-requires c κs =
     (s .pre .0, (q .0, n .negate .ensures .size ∙ t .turn .ensures .0 ∙ q .2, q .3, q .4, q .5, q .6))
 
 same-length : tie.Need-same-length
-same-length c = search needs
+same-length c = omega arith
 
 same-length-2 : tie.Need-same-length-2
-same-length-2 c = search needs
+same-length-2 c = omega arith
 
 same-length-3 : tie.Need-same-length-3
-same-length-3 c = search needs
+same-length-3 c = omega arith
 
 same-length-4 : tie.Need-same-length-4
-same-length-4 c = search needs
+same-length-4 c = omega arith
 
 same-length-5 : tie.Need-same-length-5
-same-length-5 c = search needs
+same-length-5 c = omega arith
 
 returns : tie.Need-returns
 returns c =

@@ -4,7 +4,6 @@ use mathlib.Core.Path.{ap}
 use Prim.Native.Nat.{ℕ, _-_, _%_}
 use native.Mathlib.Nat.{mod-lt}
 use native.Mathlib.Omega.{arith}
-use borrow.Author.Needs.{needs}
 use Rattle.lists.proofs.Fill.{Filled, fill-start, fill-turn, filled}
 use Rattle.linear.specs.Flat.{place}
 use Rattle.tables.proofs.negate.Statement.{statement}
@@ -34,16 +33,16 @@ sub-x c =
     omega (arith, mod-lt (place (l .x) (l .i)) (c .before .before .before .pre .0))
 
 mul-x-2 : tie.Need-mul-x-2 Inv-loop μ-loop
-mul-x-2 c = search needs
+mul-x-2 c = omega arith
 
 slice-write-x : tie.Need-slice-write-x Inv-loop μ-loop
-slice-write-x c = search needs
+slice-write-x c = omega arith
 
 add-i : tie.Need-add-i Inv-loop μ-loop
-add-i c = search needs
+add-i c = omega arith
 
 loop-less : tie.Need-loop-less Inv-loop μ-loop
-loop-less c = search needs
+loop-less c = omega arith
 
 loop-again : tie.Need-loop-again Inv-loop μ-loop
 loop-again c =

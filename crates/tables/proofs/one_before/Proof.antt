@@ -3,8 +3,7 @@
 use mathlib.Core.Path.{refl, _∙_}
 use Prim.Native.Nat.{_-_}
 use native.Mathlib.Omega.{arith}
-use lib.ListN.{length}
-use borrow.Author.Needs.{needs}
+use lib.ListN.{length, length-set}
 use Rattle.lists.proofs.Fill.{Filled, fill-start, fill-turn}
 use Rattle.linear.specs.Flat.{place}
 use Rattle.tables.proofs.Ones.{one-before}
@@ -21,35 +20,35 @@ loop-holds : tie.Need-loop-holds Inv-loop μ-loop
 loop-holds c = fill-start _ _ _ _
 
 mul-z : tie.Need-mul-z Inv-loop μ-loop
-mul-z c = search needs
+mul-z c = omega arith
 
 shared-slice-read-z : tie.Need-shared-slice-read-z Inv-loop μ-loop
-shared-slice-read-z c = search needs
+shared-slice-read-z c = omega arith
 
 add-z : tie.Need-add-z Inv-loop μ-loop
-add-z c = search needs
+add-z c = omega arith
 
 mul-z-2 : tie.Need-mul-z-2 Inv-loop μ-loop
-mul-z-2 c = search needs
+mul-z-2 c = omega arith
 
 slice-write-z : tie.Need-slice-write-z Inv-loop μ-loop
-slice-write-z c = search needs
+slice-write-z c = omega arith
 
 add-j : tie.Need-add-j Inv-loop μ-loop
-add-j c = search needs
+add-j c = omega arith
 
 loop-less : tie.Need-loop-less Inv-loop μ-loop
-loop-less c = search needs
+loop-less c = omega arith
 
 loop-again : tie.Need-loop-again Inv-loop μ-loop
 loop-again c =
     fill-turn _ _ _ _ _ _ _ _ (c .before .before .loop .inv) (c .before .loop-test .taken) (omega arith) refl refl
 
 slice-write-z-2 : tie.Need-slice-write-z-2 Inv-loop μ-loop
-slice-write-z-2 c = search needs
+slice-write-z-2 c = omega arith
 
 same-length : tie.Need-same-length Inv-loop μ-loop
-same-length c = search needs
+same-length c = let l = c .before .loop in length-set (l .z) _ _ ∙ l .inv .size
 
 returns : tie.Need-returns Inv-loop μ-loop
 returns c =

@@ -3,19 +3,18 @@
 use mathlib.Core.Path.{refl, _∙_}
 use Prim.Native.Nat.{_-_, _*_}
 use native.Mathlib.Omega.{arith}
-use borrow.Author.Needs.{needs}
 use Rattle.tables.proofs.Parts.{part-length, first-fits, others-size, others-fit, others-give}
 use Rattle.tables.proofs.others_give.Statement.{statement}
 use Rattle.tables.proofs.others_give.Tie as tie
 
 mul-n : tie.Need-mul-n
-mul-n c = search needs
+mul-n c = omega arith
 
 sub-m : tie.Need-sub-m
-sub-m c = search needs
+sub-m c = omega arith
 
 mul-find : tie.Need-mul-find
-mul-find c = search needs
+mul-find c = omega arith
 
 sub-find : tie.Need-sub-find
 sub-find c = let s = c .before .before .before .before .before in first-fits (s .args .d) (s .args .e) (s .pre .1 .0)
@@ -24,13 +23,13 @@ part-find-start : tie.Need-part-find-start
 part-find-start c = let s = c .before .before .before .before .before in omega (arith, first-fits (s .args .d) (s .args .e) (s .pre .1 .0))
 
 part-find-end : tie.Need-part-find-end
-part-find-end c = search needs
+part-find-end c = omega arith
 
 sub-find-2 : tie.Need-sub-find-2
-sub-find-2 c = search needs
+sub-find-2 c = omega arith
 
 part-find-start-2 : tie.Need-part-find-start-2
-part-find-start-2 c = search needs
+part-find-start-2 c = omega arith
 
 part-find-end-2 : tie.Need-part-find-end-2
 part-find-end-2 c =
@@ -38,31 +37,31 @@ part-find-end-2 c =
     omega (arith, first-fits (s .args .d) (s .args .e) (s .pre .1 .0))
 
 sub-find-3 : tie.Need-sub-find-3
-sub-find-3 c = search needs
+sub-find-3 c = omega arith
 
 part-find-start-3 : tie.Need-part-find-start-3
-part-find-start-3 c = search needs
+part-find-start-3 c = omega arith
 
 part-find-end-3 : tie.Need-part-find-end-3
-part-find-end-3 c = search needs
+part-find-end-3 c = omega arith
 
 sub-find-4 : tie.Need-sub-find-4
-sub-find-4 c = search needs
+sub-find-4 c = omega arith
 
 part-find-start-4 : tie.Need-part-find-start-4
-part-find-start-4 c = search needs
+part-find-start-4 c = omega arith
 
 part-find-end-4 : tie.Need-part-find-end-4
-part-find-end-4 c = search needs
+part-find-end-4 c = omega arith
 
 sub-find-5 : tie.Need-sub-find-5
-sub-find-5 c = search needs
+sub-find-5 c = omega arith
 
 part-find-start-5 : tie.Need-part-find-start-5
-part-find-start-5 c = search needs
+part-find-start-5 c = omega arith
 
 part-find-end-5 : tie.Need-part-find-end-5
-part-find-end-5 c = search needs
+part-find-end-5 c = omega arith
 
 find-requires : tie.Need-find-requires
 find-requires c κs =
@@ -83,16 +82,16 @@ find-requires c κs =
     )
 
 same-length : tie.Need-same-length
-same-length c = search needs
+same-length c = omega arith
 
 same-length-2 : tie.Need-same-length-2
-same-length-2 c = search needs
+same-length-2 c = omega arith
 
 same-length-3 : tie.Need-same-length-3
-same-length-3 c = search needs
+same-length-3 c = omega arith
 
 same-length-4 : tie.Need-same-length-4
-same-length-4 c = search needs
+same-length-4 c = omega arith
 
 returns : tie.Need-returns
 returns c =

@@ -2,7 +2,6 @@
 -- Assumes nothing.
 use mathlib.Core.Path.{refl}
 use native.Mathlib.Omega.{arith}
-use borrow.Author.Needs.{needs}
 use Rattle.tables.proofs.Verdict.{opened}
 use Rattle.tables.proofs.Parts.{part-length}
 use Rattle.tables.proofs.weigh.Statement.{statement}
@@ -12,22 +11,22 @@ aim-requires : tie.Need-aim-requires
 aim-requires c κs = let q = c .before .before .before .before .before .before .before .pre .1 .0 in (q .0, q .2)
 
 sub-find : tie.Need-sub-find
-sub-find c = search needs
+sub-find c = omega arith
 
 part-find-start : tie.Need-part-find-start
-part-find-start c = search needs
+part-find-start c = omega arith
 
 part-find-end : tie.Need-part-find-end
-part-find-end c = search needs
+part-find-end c = omega arith
 
 sub-find-2 : tie.Need-sub-find-2
-sub-find-2 c = search needs
+sub-find-2 c = omega arith
 
 part-find-start-2 : tie.Need-part-find-start-2
-part-find-start-2 c = search needs
+part-find-start-2 c = omega arith
 
 part-find-end-2 : tie.Need-part-find-end-2
-part-find-end-2 c = search needs
+part-find-end-2 c = omega arith
 
 find-requires : tie.Need-find-requires
 find-requires c κs =
@@ -47,19 +46,19 @@ find-requires c κs =
     )
 
 same-length : tie.Need-same-length
-same-length c = search needs
+same-length c = omega arith
 
 same-length-2 : tie.Need-same-length-2
-same-length-2 c = search needs
+same-length-2 c = omega arith
 
 same-length-3 : tie.Need-same-length-3
-same-length-3 c = search needs
+same-length-3 c = omega arith
 
 same-length-4 : tie.Need-same-length-4
-same-length-4 c = search needs
+same-length-4 c = omega arith
 
 same-length-5 : tie.Need-same-length-5
-same-length-5 c = search needs
+same-length-5 c = omega arith
 
 returns : tie.Need-returns
 returns c =
