@@ -1,1 +1,5 @@
 pub mod Places
+pub mod Begins
+pub mod Found
+pub mod Ends
+pub mod OneTree
