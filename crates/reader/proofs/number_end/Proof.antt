@@ -42,11 +42,21 @@ returns-2 c = rw (← c .before .before .before .kind-at .ensures, c .before .en
 
 returns-3 : tie.Need-returns-3
 unfolding numberEnd
-returns-3 c = rw (← c .before .before .before .before .before .kind-at .ensures, c .before .before .before .k .given .1, eq-eqb _ _ (c .before .if2 .taken), le-leb _ _ (c .if3 .taken))
+returns-3 c = rw (
+  ← c .before .before .before .before .before .kind-at .ensures,
+  c .before .before .before .k .given .1,
+  eq-eqb _ _ (c .before .if2 .taken),
+  le-leb _ 6 (c .if3 .taken),
+)
 
 returns-4 : tie.Need-returns-4
 unfolding numberEnd
-returns-4 c = rw (← c .before .before .before .before .before .kind-at .ensures, c .before .before .before .k .given .1, eq-eqb _ _ (c .before .if2 .taken), lt-leb _ _ (c .if3 .left))
+returns-4 c = rw (
+  ← c .before .before .before .before .before .kind-at .ensures,
+  c .before .before .before .k .given .1,
+  eq-eqb _ _ (c .before .if2 .taken),
+  lt-leb _ 6 (c .if3 .left),
+)
 
 returns-5 : tie.Need-returns-5
 unfolding numberEnd
