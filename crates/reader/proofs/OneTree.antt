@@ -6,10 +6,10 @@ use mathlib.Core.List.{List, [], _∷_, _++_, append-assoc, append-nil, nil≢co
 use Prim.Native.Nat.{ℕ, _+_, _-_, _≤_}
 use native.Mathlib.Omega.{arith}
 use lib.Dec.{ltb}
-use borrow.Author.Tests.{ltb-true, ltb-false}
+use borrow.Author.Tests.{ltb-false}
 use Rattle.rules.specs.Tree.{Rule, Term, Atom, term, _or_, atom, _and_, number, group, choice}
 use Rattle.rules.specs.Text.{bar, ampersand, opening, closing, numeral, ruleText, termText, atomText, WellRule, WellTerm, WellAtom, IsRule}
-use Rattle.reader.proofs.Begins.{Not, NoDigit}
+use Rattle.reader.proofs.Begins.{Not, not-here, NoDigit}
 use Rattle.reader.proofs.Ends.{AfterTerm, AfterRule, ampersand-follows, bar-follows, closing-follows, nothing-follows}
 
 -- The tree and what follows it are the same.
@@ -19,10 +19,6 @@ Same a b y z = (a ≡ b) × (y ≡ z)
 -- The same wherever texts are the same, with what may follow.
 abbrev SameFrom : {A : Type 0} → (A → List ℕ) → (List ℕ → Type 0) → A → A → Type 0
 SameFrom text After a b = (y z : List ℕ) → After y → After z → text a ++ y ≡ text b ++ z → Same a b y z
-
-not-here : (byte : ℕ) (y z : List ℕ) → y ≡ byte ∷ z → Not byte y → ⊥
-not-here byte [] z e n = absurd (nil≢cons e)
-not-here byte (b ∷ y) z e n = n (head-eq-of-cons-eq e)
 
 no-digit-here : (b : ℕ) (y z : List ℕ) → y ≡ b ∷ z → 48 ≤ b → b ≤ 57 → NoDigit y → ⊥
 no-digit-here b [] z e l u n = nil≢cons e

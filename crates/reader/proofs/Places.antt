@@ -25,7 +25,6 @@ use Rattle.reader.specs.Grammar.{
   isOpen,
   isClose,
   digit,
-  numberBy,
   numberEnd,
   after,
   ruleEnd,

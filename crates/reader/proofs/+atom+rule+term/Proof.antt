@@ -1,5 +1,5 @@
--- `reader::rule`, `term` and `atom`, which call each other, meet their contracts. What falls: three times the length of the text that is left,
--- with 2 for a rule and 1 for a term.
+-- `reader::rule`, `term` and `atom`, which call each other, meet their contracts. What falls: three times the length of what is left, with
+-- 2 for a rule and 1 for a term.
 -- Assumes nothing.
 use borrow.Author.Needs.{needs}
 use Prim.Native.Nat.{ℕ, _+_, _*_, _-_, _<_}
@@ -111,7 +111,8 @@ atom-enum-told-2 t c = search needs
 atom-returns-2 : (t : ℕ) → atom-lts.Need-returns-2 (atom-claims t) (atom-at t) atom.Post
 atom-returns-2 t c =
     let g = c .before .before in
-    group-bad _ _ _ (g .before .before .before .before .kind-at .ensures) (g .before .before .enum-told .given .1) (g .before .if1 .left) (g .rule .ensures)
+    group-bad _ _ _ (g .before .before .before .before .kind-at .ensures) (g .before .before .enum-told .given .1)
+    (g .before .if1 .left) (g .rule .ensures)
     (c .enum-told2 .given .1)
 
 atom-kind-at-requires-2 : (t : ℕ) → atom-lts.Need-kind-at-requires-2 (atom-claims t) (atom-at t) atom.Post
@@ -124,18 +125,21 @@ atom-add-t14 : (t : ℕ) → atom-lts.Need-add-t14 (atom-claims t) (atom-at t) a
 atom-add-t14 t c = let l = seen-as _ _ _ _ (c .before .before .kind-at2 .ensures) (c .enum-told3 .given .1) tt in omega arith
 
 atom-returns-3 : (t : ℕ) → atom-lts.Need-returns-3 (atom-claims t) (atom-at t) atom.Post
-atom-returns-3 t c = atom-number _ _ _ (c .before .before .before .before .kind-at .ensures) (c .before .before .k .given .1) (c .number-end .ensures)
+atom-returns-3 t c =
+    atom-number _ _ _ (c .before .before .before .before .kind-at .ensures) (c .before .before .k .given .1) (c .number-end .ensures)
 
 atom-returns-4 : (t : ℕ) → atom-lts.Need-returns-4 (atom-claims t) (atom-at t) atom.Post
 atom-returns-4 t c =
     let g = c .before .before .before .before .before .before in
-    group-closed _ _ _ (g .before .before .before .before .kind-at .ensures) (g .before .before .enum-told .given .1) (g .before .if1 .left) (g .rule .ensures)
+    group-closed _ _ _ (g .before .before .before .before .kind-at .ensures) (g .before .before .enum-told .given .1)
+    (g .before .if1 .left) (g .rule .ensures)
     (c .before .before .before .before .t .given .1) (c .before .before .kind-at2 .ensures) (c .enum-told3 .given .1)
 
 atom-returns-5 : (t : ℕ) → atom-lts.Need-returns-5 (atom-claims t) (atom-at t) atom.Post
 atom-returns-5 t c =
     let g = c .before .before .before .before .before in
-    group-left _ _ _ (g .before .before .before .before .kind-at .ensures) (g .before .before .enum-told .given .1) (g .before .if1 .left) (g .rule .ensures)
+    group-left _ _ _ (g .before .before .before .before .kind-at .ensures) (g .before .before .enum-told .given .1)
+    (g .before .if1 .left) (g .rule .ensures)
     (c .before .before .before .t .given .1) (c .before .kind-at2 .ensures) (not-close (c .before .kind-at2 .result) (c .match3 .keys2))
 
 atom-returns-6 : (t : ℕ) → atom-lts.Need-returns-6 (atom-claims t) (atom-at t) atom.Post
@@ -172,7 +176,8 @@ rule-rule-requires t c κs =
 rule-returns-2 : (t : ℕ) → rule-lts.Need-returns-2 (rule-claims t) (rule-at t) rule.Post
 rule-returns-2 t c =
     joined-more termEnd ruleEnd Or tt rule-step 2 (c .before .before .before .before .before .before .before .term .ensures) (omega arith)
-    (c .before .before .before .before .before .t .given .1) (c .before .before .before .kind-at .ensures) (c .before .enum-told2 .given .1) (c .rule .ensures)
+    (c .before .before .before .before .before .t .given .1) (c .before .before .before .kind-at .ensures) (c .before .enum-told2 .given .1)
+    (c .rule .ensures)
 
 rule-returns-3 : (t : ℕ) → rule-lts.Need-returns-3 (rule-claims t) (rule-at t) rule.Post
 rule-returns-3 t c =
@@ -210,7 +215,8 @@ term-term-requires t c κs =
 term-returns-2 : (t : ℕ) → term-lts.Need-returns-2 (term-claims t) (term-at t) term.Post
 term-returns-2 t c =
     joined-more atomEnd termEnd And tt term-step 1 (c .before .before .before .before .before .before .before .atom .ensures) (omega arith)
-    (c .before .before .before .before .before .t .given .1) (c .before .before .before .kind-at .ensures) (c .before .enum-told2 .given .1) (c .term .ensures)
+    (c .before .before .before .before .before .t .given .1) (c .before .before .before .kind-at .ensures) (c .before .enum-told2 .given .1)
+    (c .term .ensures)
 
 term-returns-3 : (t : ℕ) → term-lts.Need-returns-3 (term-claims t) (term-at t) term.Post
 term-returns-3 t c =

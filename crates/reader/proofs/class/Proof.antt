@@ -5,8 +5,6 @@ use native.Mathlib.Omega.{arith}
 use Rattle.reader.specs.Grammar.{classOf}
 use Rattle.reader.proofs.class.Statement.{statement}
 use Rattle.reader.proofs.class.Tie as tie
-use Rattle.reader.proofs.class.Reads as reads
-use Rattle.reader.proofs.class.Lts as lts
 
 returns : tie.Need-returns
 unfolding classOf

@@ -2,14 +2,10 @@
 -- Assumes nothing.
 use borrow.Author.Needs.{needs}
 use borrow.Author.Tests.{eq-eqb, ne-eqb, le-leb, lt-leb}
-use mathlib.Core.Path.{_∙_, sym, ap}
 use Rattle.reader.specs.Grammar.{numberEnd}
 use Rattle.reader.proofs.Places.{not-digit}
 use Rattle.reader.proofs.number_end.Statement.{statement}
 use Rattle.reader.proofs.number_end.Tie as tie
-use Rattle.reader.proofs.number_end.Reads as reads
-use Rattle.reader.proofs.number_end.Lts as lts
-use Rattle.reader.proofs.kind_at.Reads as kind-at-reads
 
 add-kind-at : tie.Need-add-kind-at
 add-kind-at c = search needs

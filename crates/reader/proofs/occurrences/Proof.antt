@@ -9,9 +9,6 @@ use borrow.Author.Needs.{needs}
 use native.Mathlib.Omega.{arith}
 use Rattle.reader.proofs.occurrences.Statement.{statement}
 use Rattle.reader.proofs.occurrences.Tie as tie
-use Rattle.reader.proofs.occurrences.Reads as reads
-use Rattle.reader.proofs.occurrences.Lts as lts
-use Rattle.reader.proofs.one_if_same.Reads as one-if-same-reads
 
 abbrev Inv-loop : tie.InvT-loop
 Inv-loop text b i₀ n₀ i n = (i ≤ length text) × (n ≤ i) × (n + occurs b (drop i text) ≡ occurs b text)

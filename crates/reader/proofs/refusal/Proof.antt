@@ -7,11 +7,6 @@ use native.Mathlib.Omega.{arith}
 use borrow.Author.Needs.{needs}
 use Rattle.reader.proofs.refusal.Statement.{statement}
 use Rattle.reader.proofs.refusal.Tie as tie
-use Rattle.reader.proofs.refusal.Reads as reads
-use Rattle.reader.proofs.refusal.Lts as lts
-use Rattle.reader.proofs.is_rule.Reads as is-rule-reads
-use Rattle.reader.proofs.named.Reads as named-reads
-use Rattle.reader.proofs.occurrences.Reads as occurrences-reads
 
 is-rule-requires : tie.Need-is-rule-requires
 is-rule-requires c κs = search needs
@@ -35,7 +30,8 @@ occurrences-requires-2 c κs = search needs
 
 add-if3 : tie.Need-add-if3
 add-if3 c =
-    let few = joins-few _ (c .before .before .before .before .before .is-rule .ensures) (not-false _ (c .before .before .before .before .if1 .left))
+    let few =
+    joins-few _ (c .before .before .before .before .before .is-rule .ensures) (not-false _ (c .before .before .before .before .if1 .left))
     (c .before .occurrences .ensures) (c .occurrences2 .ensures) in
     record { fits = omega arith }
 
