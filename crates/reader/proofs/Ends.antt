@@ -114,7 +114,7 @@ module _ (n : ℕ) (s : List ℕ) (d at : ℕ) where
         le-leb (digit (classOf (38 + i))) 6 (omega (arith, second .1)),
       )
 
-  number-ends : (i : ℕ) (z : List ℕ) → drop at s ≡ numeral i ++ z → 1 ≤ i → i ≤ 16 → NoDigit z
+  pub number-ends : (i : ℕ) (z : List ℕ) → drop at s ≡ numeral i ++ z → 1 ≤ i → i ≤ 16 → NoDigit z
       → atomEnd (suc n) s d at ≡ At (at + length (numeral i))
   unfolding numeral
   number-ends i z e l u stop = go (ltb i 10) refl e
@@ -142,7 +142,7 @@ module _ (s : List ℕ) where
         (bar-follows (ruleText r ++ z)) (omega (arith, m)))
         (ruleText r) z e (λ f. rule-ends r n d (at + length (termText t) + 1) z f (w .1) a (omega (arith, m)))
 
-    term-ends : (t : Term) (n d at : ℕ) (z : List ℕ) → drop at s ≡ termText t ++ z → WellTerm t d → AfterTerm z
+    pub term-ends : (t : Term) (n d at : ℕ) (z : List ℕ) → drop at s ≡ termText t ++ z → WellTerm t d → AfterTerm z
         → 3 * length (termText t) + 1 < n → termEnd n s d at ≡ At (at + length (termText t))
     term-ends (atom b) zero d at z e w a l = absurd (not-suc-le-zero l)
     term-ends (atom b) (suc n) d at z e w a l =
@@ -156,7 +156,7 @@ module _ (s : List ℕ) where
         (ampersand-follows (termText t ++ z)) (omega (arith, m)))
         (termText t) z e (λ f. term-ends t n d (at + length (atomText b) + 1) z f (w .1) a (omega (arith, m)))
 
-    atom-ends : (b : Atom) (n d at : ℕ) (z : List ℕ) → drop at s ≡ atomText b ++ z → WellAtom b d → NoDigit z
+    pub atom-ends : (b : Atom) (n d at : ℕ) (z : List ℕ) → drop at s ≡ atomText b ++ z → WellAtom b d → NoDigit z
         → 3 * length (atomText b) < n → atomEnd n s d at ≡ At (at + length (atomText b))
     atom-ends (number i) zero d at z e w a l = absurd (not-suc-le-zero l)
     atom-ends (number i) (suc n) d at z e w a l = number-ends n s d at i z e (w .0) (w .1) a

@@ -1,7 +1,7 @@
--- A whole text, from what the reader of a rule answers of it: it is a rule, or it is none.
+-- A whole text, from what the reader of a rule answers of it: it is a rule, or it is none; and that is one answer.
 -- Assumes nothing.
-use mathlib.Core.Path.{_≡_, sym, ap, subst, _∙_}
-use mathlib.Core.Bool.{false, false≢true}
+use mathlib.Core.Path.{_≡_, refl, sym, ap, subst, _∙_}
+use mathlib.Core.Bool.{Bool, true, false, false≢true}
 use mathlib.Core.List.{List, [], _++_, append-nil}
 use Prim.Native.Nat.{ℕ, _+_, _*_, _-_, _≤_, _<_}
 use native.Mathlib.Omega.{arith}
@@ -67,3 +67,10 @@ module _ (t : List ℕ) (long : 1 ≤ length t) (short : length t ≤ 256) (end 
           short = short;
         },
       )
+
+-- A text has one answer.
+pub recognised-one : (t : List ℕ) (a b : Bool) → Recognised t a → Recognised t b → a ≡ b
+recognised-one t true true x y = refl
+recognised-one t true false x y = let r = x .yes refl in absurd (y .no refl (r .0) (r .1))
+recognised-one t false true x y = let r = y .yes refl in absurd (x .no refl (r .0) (r .1))
+recognised-one t false false x y = refl

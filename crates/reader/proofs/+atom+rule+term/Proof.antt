@@ -1,10 +1,12 @@
 -- `reader::rule`, `term` and `atom`, which call each other, meet their contracts. What falls: three times the length of what is left, with
 -- 2 for a rule and 1 for a term.
 -- Assumes nothing.
-use borrow.Author.Needs.{needs}
 use Prim.Native.Nat.{ℕ, _+_, _*_, _-_, _<_}
-use lib.ListN.{length}
 use native.Mathlib.Omega.{arith}
+use lib.ListN.{length}
+use borrow.Author.Needs.{needs}
+use borrow.Fn.Kinds.{In}
+use borrow.Fn.PlainCycle.{Measures, is, falls, and}
 use Rattle.reader.specs.declared.Kind.the-variants.{Or, And}
 use Rattle.reader.specs.Grammar.{ruleEnd, termEnd, atomEnd}
 use Rattle.reader.proofs.Places.{
@@ -25,8 +27,6 @@ use Rattle.reader.proofs.Places.{
   group-left,
   group-closed,
 }
-use borrow.Fn.Kinds.{In}
-use borrow.Fn.PlainCycle.{Measures, is, falls, and}
 use Rattle.reader.proofs.atom.Reads as atom
 use Rattle.reader.proofs.atom.Kinds as atom-kinds
 use Rattle.reader.proofs.+atom+rule+term.Lts-atom as atom-lts

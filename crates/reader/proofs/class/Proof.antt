@@ -1,7 +1,7 @@
 -- `reader::class` meets its contract.
 -- Assumes nothing.
-use borrow.Author.Tests.{le-leb, lt-leb, ne-eqb}
 use native.Mathlib.Omega.{arith}
+use borrow.Author.Tests.{le-leb, lt-leb, ne-eqb}
 use Rattle.reader.specs.Grammar.{classOf}
 use Rattle.reader.proofs.class.Statement.{statement}
 use Rattle.reader.proofs.class.Tie as tie

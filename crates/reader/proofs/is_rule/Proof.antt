@@ -1,8 +1,8 @@
 -- `reader::is_rule` meets its contract.
 -- Assumes nothing.
-use Rattle.reader.proofs.Whole.{too-short, too-long, unread, read-to}
 use native.Mathlib.Omega.{arith}
 use borrow.Author.Needs.{needs}
+use Rattle.reader.proofs.Whole.{too-short, too-long, unread, read-to}
 use Rattle.reader.proofs.is_rule.Statement.{statement}
 use Rattle.reader.proofs.is_rule.Tie as tie
 

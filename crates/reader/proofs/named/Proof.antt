@@ -2,11 +2,11 @@
 -- Assumes nothing.
 use mathlib.Core.Path.{_≡_, refl}
 use Prim.Native.Nat.{_-_, _≤_}
+use native.Mathlib.Omega.{arith}
 use lib.ListN.{length, drop}
+use borrow.Author.Needs.{needs}
 use Rattle.reader.specs.Scan.{upTo}
 use Rattle.reader.proofs.Passes.{upTo-stop, upTo-go, upTo-end}
-use borrow.Author.Needs.{needs}
-use native.Mathlib.Omega.{arith}
 use Rattle.reader.proofs.named.Statement.{statement}
 use Rattle.reader.proofs.named.Tie as tie
 

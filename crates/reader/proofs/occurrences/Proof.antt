@@ -2,11 +2,11 @@
 -- Assumes nothing.
 use mathlib.Core.Path.{_≡_}
 use Prim.Native.Nat.{_+_, _-_, _≤_}
+use native.Mathlib.Omega.{arith}
 use lib.ListN.{length, drop}
+use borrow.Author.Needs.{needs}
 use Rattle.rules.specs.Bytes.{occurs}
 use Rattle.reader.proofs.Passes.{occurs-go, occurs-end}
-use borrow.Author.Needs.{needs}
-use native.Mathlib.Omega.{arith}
 use Rattle.reader.proofs.occurrences.Statement.{statement}
 use Rattle.reader.proofs.occurrences.Tie as tie
 

@@ -1,7 +1,7 @@
 -- `reader::one_if_same` meets its contract.
 -- Assumes nothing.
-use borrow.Author.Tests.{eq-eqb, ne-eqb}
 use native.Mathlib.Omega.{arith}
+use borrow.Author.Tests.{eq-eqb, ne-eqb}
 use Rattle.reader.proofs.one_if_same.Statement.{statement}
 use Rattle.reader.proofs.one_if_same.Tie as tie
 

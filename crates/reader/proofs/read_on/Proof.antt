@@ -1,7 +1,7 @@
 -- `reader::read_on` meets its contract.
 -- Assumes nothing.
-use Rattle.reader.proofs.Passes.{further-low, further-high, further-digit}
 use borrow.Author.Needs.{needs}
+use Rattle.reader.proofs.Passes.{further-low, further-high, further-digit}
 use Rattle.reader.proofs.read_on.Statement.{statement}
 use Rattle.reader.proofs.read_on.Tie as tie
 

@@ -1,10 +1,10 @@
 -- `reader::refusal` meets its contract.
 -- Assumes nothing.
+use native.Mathlib.Omega.{arith}
 use borrow.Author.Tests.{not-true, not-false}
+use borrow.Author.Needs.{needs}
 use Rattle.scheme.proofs.Tests.{failed, passed}
 use Rattle.reader.proofs.Refused.{no-rule, above-n, joins-few, many-rows, many-columns, nothing}
-use native.Mathlib.Omega.{arith}
-use borrow.Author.Needs.{needs}
 use Rattle.reader.proofs.refusal.Statement.{statement}
 use Rattle.reader.proofs.refusal.Tie as tie
 
@@ -30,8 +30,8 @@ occurrences-requires-2 c κs = search needs
 
 add-if3 : tie.Need-add-if3
 add-if3 c =
-    let few =
-    joins-few _ (c .before .before .before .before .before .is-rule .ensures) (not-false _ (c .before .before .before .before .if1 .left))
+    let u = c .before .before .before in
+    let few = joins-few _ (u .before .before .is-rule .ensures) (not-false _ (u .before .if1 .left))
     (c .before .occurrences .ensures) (c .occurrences2 .ensures) in
     record { fits = omega arith }
 
