@@ -47,11 +47,14 @@ abbrev pub ReadSays : List ℕ → List ℕ → Read → Type 0
 ReadSays text out (Count k) = (areNumbers text ≡ true) × (numbersOf text ≡ take k out) × (k ≤ length out)
 ReadSays text out Bad = fits text (length out) ≡ false
 
--- A text read up to `rest`: what is stored and what the rest goes on with are the text's numbers; or the text is bad.
+-- A text read in part: the first `count` places and then `more` are its numbers, and it is one of numbers exactly where `goes`; or it is bad.
+unfoldable pub Stored : List ℕ → List ℕ → Bool → ℕ → List ℕ → Bool → Type 0
+Stored text out true count more goes = (take count out ++ more ≡ numbersOf text) × (goes ≡ areNumbers text) × (count ≤ length out)
+Stored text out false count more goes = fits text (length out) ≡ false
+
+-- The same where `rest` is to be read.
 abbrev pub ReadsOn : List ℕ → List ℕ → Bool → ℕ → Bool → ℕ → List ℕ → Type 0
-ReadsOn text out true count seen value rest =
-    (take count out ++ numbersFrom value rest ≡ numbersOf text) × (goesOn seen value rest ≡ areNumbers text) × (count ≤ length out)
-ReadsOn text out false count seen value rest = fits text (length out) ≡ false
+ReadsOn text out good count seen value rest = Stored text out good count (numbersFrom value rest) (goesOn seen value rest)
 
 abbrev pub Reads : List ℕ → List ℕ → Reading → List ℕ → Type 0
-Reads text out now rest = ReadsOn text out (now .good) (now .count) (now .seen) (now .value) rest
+Reads text out state rest = ReadsOn text out (state .good) (state .count) (state .seen) (state .value) rest

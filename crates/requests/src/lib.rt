@@ -1,13 +1,13 @@
 // Request lines: a call's name and decimal numbers below 2^32, with one space between. The numbers of a line as one list, and the parts of
 // that list: a number, or a list, which is its length and then its numbers. Every function takes any line and any list.
 ghost use mathlib.Core.Path.{_≡_};
-ghost use mathlib.Core.Bool.{true, false};
-ghost use mathlib.Core.List.{List};
-ghost use Prim.Native.Nat.{ℕ, _+_, _≤_};
+ghost use mathlib.Core.Bool.{Bool, true, false, _&&_};
+ghost use mathlib.Core.List.{List, [], _∷_};
+ghost use Prim.Native.Nat.{ℕ, _+_, _*_};
 ghost use lib.Dec.{eqb};
-ghost use lib.ListN.{length, take, drop, getD};
+ghost use lib.ListN.{take, drop, getD};
 ghost use Rattle.bytes.specs.Bytes.{indexOf};
-ghost use Rattle.requests.specs.Text.{ReadSays, Reads};
+ghost use Rattle.requests.specs.Text.{ReadSays, Stored, ReadsOn, Reads};
 ghost use Rattle.requests.specs.Parts.{pastNumber, pastList, listAt};
 
 const SPACE: u8 = 32;
@@ -59,7 +59,7 @@ fn start() -> Reading
 }
 
 fn stopped() -> Reading
-    ensures { λ r. ⌜ r .good ≡ false ⌝ }
+    ensures { λ r. ⌜ (r .good ≡ false) × (r .seen ≡ false) × (r .value ≡ 0) ⌝ }
 {
     Reading {
         good: false,
@@ -70,11 +70,15 @@ fn stopped() -> Reading
 }
 
 // The value of a number's digits with one more digit.
-fn grown(value: u32, digit: u8) -> u64 {
+fn grown(value: u32, digit: u8) -> u64
+    ensures { λ r. ⌜ r ≡ value * 10 + digit ⌝ }
+{
     (value as u64) * 10 + (digit as u64)
 }
 
-fn more(count: usize, value: u32) -> Reading {
+fn with_digit(count: usize, value: u32) -> Reading
+    ensures { λ r. ⌜ (r .good ≡ true) × (r .count ≡ count) × (r .seen ≡ true) × (r .value ≡ value) ⌝ }
+{
     Reading {
         good: true,
         count: count,
@@ -83,68 +87,94 @@ fn more(count: usize, value: u32) -> Reading {
     }
 }
 
+fn with_number(count: usize) -> Reading
+    ensures { λ r. ⌜ (r .good ≡ true) × (r .count ≡ count) × (r .seen ≡ false) × (r .value ≡ 0) ⌝ }
+{
+    Reading {
+        good: true,
+        count: count,
+        seen: false,
+        value: 0,
+    }
+}
+
 // A byte that is no space: a digit, which the number takes in.
-fn digit(now: Reading, byte: u8) -> Reading {
+fn digit(count: usize, seen: bool, value: u32, byte: u8) -> Reading
+    ensures { λ r. ⌜ ((text out rest : List ℕ) → eqb byte 32 ≡ false
+        → ReadsOn text out true count seen value (byte ∷ rest) → Reads text out r rest) ⌝ }
+{
     if byte < 48 {
         return stopped();
     }
     if byte > 57 {
         return stopped();
     }
-    let value = grown(now.value, byte - 48);
-    if value > 4294967295 {
+    let more = grown(value, byte - 48);
+    if more > 4294967295 {
         return stopped();
     }
-    more(now.count, value as u32)
+    with_digit(count, more as u32)
 }
 
-// A number ends: it has a digit, and there is a place for it.
-fn ended(now: Reading, out: &mut [u32]) -> Reading {
-    let count = now.count;
-    let seen = now.seen;
+// A number ends: it has a digit, and there is a place for it. What comes after it is no matter.
+fn ended(count: usize, seen: bool, value: u32, out: &mut [u32]) -> Reading
+    ensures { λ r. ⌜ ((text ys : List ℕ) (more : Bool) → Stored text (now (out .entry)) true count (value ∷ ys) (seen && more)
+        → Stored text (now (out .exit)) (r .good) (r .count) ys more) ⌝ }
+    ensures { λ r. ⌜ (r .seen ≡ false) × (r .value ≡ 0) ⌝ }
+{
     if !seen {
         return stopped();
     }
     if out.len() <= count {
         return stopped();
     }
-    out[count] = now.value;
-    Reading {
-        good: true,
-        count: count + 1,
-        seen: false,
-        value: 0,
-    }
+    out[count] = value;
+    with_number(count + 1)
 }
 
-fn step(now: Reading, byte: u8, out: &mut [u32]) -> Reading {
-    let good = now.good;
+fn step(state: Reading, byte: u8, out: &mut [u32]) -> Reading
+    ensures { λ r. ⌜ ((text rest : List ℕ) → Reads text (now (out .entry)) state (byte ∷ rest)
+        → Reads text (now (out .exit)) r rest) ⌝ }
+{
+    let good = state.good;
+    let count = state.count;
+    let seen = state.seen;
+    let value = state.value;
     if !good {
         return stopped();
     }
     if byte == SPACE {
-        return ended(now, out);
+        return ended(count, seen, value, out);
     }
-    digit(now, byte)
+    digit(count, seen, value, byte)
 }
 
-fn finished(now: Reading, out: &mut [u32]) -> Reading {
-    let good = now.good;
+// The text ends, and with it the last number.
+fn finished(state: Reading, out: &mut [u32]) -> Reading
+    ensures { λ r. ⌜ ((text : List ℕ) → Reads text (now (out .entry)) state []
+        → Stored text (now (out .exit)) (r .good) (r .count) [] true) ⌝ }
+{
+    let good = state.good;
+    let count = state.count;
+    let seen = state.seen;
+    let value = state.value;
     if !good {
         return stopped();
     }
-    ended(now, out)
+    ended(count, seen, value, out)
 }
 
 // The numbers of a text, stored from the first place on.
-pub fn numbers(text: &[u8], out: &mut [u32]) -> Read {
-    let mut now = start();
+pub fn numbers(text: &[u8], out: &mut [u32]) -> Read
+    ensures { λ r. ⌜ ReadSays (now (text .entry)) (now (out .exit)) r ⌝ }
+{
+    let mut state = start();
     let mut i = 0;
     while i < text.len() {
-        now = step(now, text[i], out);
+        state = step(state, text[i], out);
         i += 1;
     }
-    let last = finished(now, out);
+    let last = finished(state, out);
     let good = last.good;
     if !good {
         return Read::Bad;
