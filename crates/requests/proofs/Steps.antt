@@ -1,7 +1,7 @@
 -- A text read byte by byte: each step keeps what is stored and what is left to read at the text's numbers.
 -- Assumes nothing.
 use mathlib.Core.Path.{_≡_, refl, sym, ap, _∙_}
-use mathlib.Core.Bool.{Bool, true, false, _&&_, cond, false≢true}
+use mathlib.Core.Bool.{Bool, true, false, not, _&&_, false≢true}
 use mathlib.Core.List.{List, [], _∷_, _++_, append-nil}
 use Prim.Native.Nat.{ℕ, suc, _+_, _*_, _-_, _≤_, _<_}
 use native.Mathlib.Numerals.{add-one}
@@ -9,7 +9,7 @@ use native.Mathlib.Omega.{arith}
 use lib.Dec.{eqb, leb, ltb}
 use lib.ListN.{length, take, drop, getD, set, length-append, length-set, drop-of-length-le}
 use lib.Seq.{length-take-le, take-suc-set, append-snoc, drop-cons}
-use borrow.Author.Tests.{lt-ltb, le-ltb, le-leb, lt-leb, eq-eqb}
+use borrow.Author.Tests.{lt-ltb, le-ltb, le-leb, lt-leb, eq-eqb, not-true}
 use Rattle.requests.specs.Text.{isDigit, grown, goesOn, numbersFrom, areNumbers, numbersOf, fits, Stored, ReadsOn, ReadSays}
 use Rattle.requests.specs.declared.Read.the-variants.{Count, Bad}
 
@@ -33,6 +33,11 @@ pub was-bad : (text out : List ℕ) (good : Bool) (count : ℕ) (more : List ℕ
 unfolding Stored
 was-bad text out true count more goes e h = absurd (false≢true (sym e))
 was-bad text out false count more goes e h = h
+
+pub stays-bad : (text out : List ℕ) (good good′ : Bool) (count count′ : ℕ) (more more′ : List ℕ) (goes goes′ : Bool)
+    → not good ≡ true → good′ ≡ false → Stored text out good count more goes → Stored text out good′ count′ more′ goes′
+stays-bad text out good good′ count count′ more more′ goes goes′ h e s =
+    bad text out good′ count′ more′ goes′ e (was-bad text out good count more goes (not-true good h) s)
 
 pub was-good : (text out : List ℕ) (good : Bool) (count : ℕ) (more : List ℕ) (goes : Bool) → good ≡ true
     → Stored text out good count more goes → Stored text out true count more goes
@@ -127,15 +132,19 @@ unfolding Stored
 nothing-read text out a b c d = rw (a, b, c, d) (refl, refl, omega arith)
 
 pub from-place : (text out : List ℕ) (i : ℕ) (good : Bool) (count : ℕ) (seen : Bool) (value : ℕ) → i < length text
-    → ReadsOn text out good count seen value (drop i text) → ReadsOn text out good count seen value (getD text i 0 ∷ drop (i + 1) text)
+    → ReadsOn text out good count seen value (drop i text)
+    → ReadsOn text out good count seen value (getD text i 0 ∷ drop (i + 1) text)
 from-place text out i good count seen value h s =
-    let e : drop i text ≡ getD text i 0 ∷ drop (i + 1) text = drop-cons text i 0 h ∙ ap (λ k. getD text i 0 ∷ drop k text) (sym (add-one i)) in rw e at s
+    let e : drop i text ≡ getD text i 0 ∷ drop (i + 1) text
+    = drop-cons text i 0 h ∙ ap (λ k. getD text i 0 ∷ drop k text) (sym (add-one i)) in
+    rw e at s
 
 pub all-read : (text out : List ℕ) (i : ℕ) (good : Bool) (count : ℕ) (seen : Bool) (value : ℕ) → length text ≤ i
     → ReadsOn text out good count seen value (drop i text) → ReadsOn text out good count seen value []
 all-read text out i good count seen value h s = rw (drop-of-length-le text h) at s
 
-pub says-bad : (text out : List ℕ) (good : Bool) (count : ℕ) → good ≡ false → Stored text out good count [] true → ReadSays text out Bad
+pub says-bad : (text out : List ℕ) (good : Bool) (count : ℕ) → good ≡ false → Stored text out good count [] true
+    → ReadSays text out Bad
 says-bad text out good count e s = was-bad text out good count [] true e s
 
 pub says-count : (text out : List ℕ) (good : Bool) (count : ℕ) → good ≡ true → Stored text out good count [] true

@@ -1,4 +1,4 @@
--- The parts of a list of numbers: a number; a list, which is its length and then its numbers. A place past the end stands for "not all there".
+-- The parts of a list of numbers: a number; a list, which is its length and then its numbers. One place past the end: not all there.
 -- Assumes nothing.
 use mathlib.Core.Bool.{Bool, true, false}
 use mathlib.Core.List.{List}
@@ -6,7 +6,7 @@ use Prim.Native.Nat.{ℕ, _+_}
 use lib.Dec.{ltb}
 use lib.ListN.{length, take, drop, getD}
 
--- The place k, where xs reaches so far; else the place after the last but one.
+-- The place k, where the numbers up to it are there; else one place past the end.
 abbrev pub within : List ℕ → Bool → ℕ → ℕ
 within xs true k = k
 within xs false k = length xs + 1

@@ -47,7 +47,7 @@ abbrev pub ReadSays : List ℕ → List ℕ → Read → Type 0
 ReadSays text out (Count k) = (areNumbers text ≡ true) × (numbersOf text ≡ take k out) × (k ≤ length out)
 ReadSays text out Bad = fits text (length out) ≡ false
 
--- A text read in part: the first `count` places and then `more` are its numbers, and it is one of numbers exactly where `goes`; or it is bad.
+-- A text read in part: the first `count` places and then `more` are its numbers, and it is one of numbers where `goes`; or it is bad.
 unfoldable pub Stored : List ℕ → List ℕ → Bool → ℕ → List ℕ → Bool → Type 0
 Stored text out true count more goes = (take count out ++ more ≡ numbersOf text) × (goes ≡ areNumbers text) × (count ≤ length out)
 Stored text out false count more goes = fits text (length out) ≡ false

@@ -1,4 +1,5 @@
-// How the runs write their lines: a call's name, its answer, and after ` | ` the numbers of each list lent for results, none of an empty list.
+// How the runs write their lines: a call's name, its answer, and after ` | ` the numbers of each list lent for
+// results.
 use libc::STDOUT_FILENO;
 
 // What each place of a result list holds before a call, so that a line shows which places the call left as they were.

@@ -1,22 +1,23 @@
-// Request lines answered: standard input has a request a line, a call's name and its numbers; for each this writes a line, the name, the
+// Request lines answered: standard input has a request a line, a call's name and its numbers. For each this writes a line: the name, the
 // answer, and after ` | ` the numbers of each list lent for results, 61681 where the call left a place as it was. A line that is no request
-// (an unknown name, numbers missing or left over, a number that is no decimal below 2^32, a result list of more than 2,048 places, more than
-// 16,384 numbers or 131,072 bytes) is answered by `?`.
+// (an unknown name, numbers missing or left over, a number that is no decimal below 2^32, a result list of more than 2,048 places, more
+// than 16,384 numbers or 131,072 bytes) is answered by `?`.
 //
-// | Call | Numbers: a list is its length and then its numbers; a scheme is p, n, d, e, the labels, the entries |
-// |---|---|
-// | check | scheme |
-// | deal | scheme, secret, randoms, length of shares |
-// | ask | scheme, set, length of r, length of z |
-// | join | scheme, set, shares |
-// | threshold | scheme, t |
+// The numbers of a call; a list is its length and then its numbers, a scheme is p, n, d, e, the labels and the entries:
+//   check      scheme
+//   deal       scheme, secret, random numbers, length of the list for the shares
+//   ask        scheme, set, length of r, length of z
+//   join       scheme, set, shares
+//   product    scheme, length of r, length of w
+//   threshold  scheme, t
 //
-// The file stdin has such lines: document 01's examples and every refusal first, then the requests of these calls among the first of
+// The file stdin has document 01's examples, refused calls of every kind, and then requests of these six calls from
 //   python3 FOLDER/requests.py 7 3000 base | python3 FOLDER/trials.py --from-json
-// where FOLDER is a second program's folder. The file stdout is what that program answers:
+// where FOLDER has the second program. The file stdout is what that program answers:
 //   python3 FOLDER/trials.py < crates/trials/stdin
 use ask::Verdict;
 use join::Joined;
+use product::Product;
 use requests::Read;
 use scheme::Outcome;
 use scheme::Shape;
@@ -95,6 +96,14 @@ fn write_joined(a: Joined) {
     match a {
         Joined::Code(x) => write_code(x),
         Joined::Refused(k) => show::refused(k),
+    }
+}
+
+fn write_product(a: Product) {
+    match a {
+        Product::Yes => show::text(b" YES"),
+        Product::No => show::text(b" NO"),
+        Product::Refused(k) => show::refused(k),
     }
 }
 
@@ -201,6 +210,35 @@ fn join_line(xs: &[u32]) -> bool {
     true
 }
 
+fn show_product(xs: &[u32], r: &mut [u32], w: &mut [u32]) {
+    show::mark(r);
+    show::mark(w);
+    show::text(b"product");
+    write_product(product::product(shape(xs), labels(xs), entries(xs), r, w));
+    show::list(r);
+    show::list(w);
+}
+
+fn product_line(xs: &[u32]) -> bool {
+    let r = past_scheme(xs);
+    let w = requests::past_number(xs, r);
+    if requests::past_number(xs, w) != xs.len() {
+        return false;
+    }
+    if too_many(xs, r) {
+        return false;
+    }
+    if too_many(xs, w) {
+        return false;
+    }
+    let mut space = results();
+    let mut more = results();
+    let n = places(xs, r);
+    let m = places(xs, w);
+    show_product(xs, &mut space[0..n], &mut more[0..m]);
+    true
+}
+
 fn threshold_line(xs: &[u32]) -> bool {
     let t = past_scheme(xs);
     if requests::past_number(xs, t) != xs.len() {
@@ -229,6 +267,9 @@ fn request(name: &[u8], xs: &[u32]) -> bool {
     }
     if check::same(name, b"join") {
         return join_line(xs);
+    }
+    if check::same(name, b"product") {
+        return product_line(xs);
     }
     if check::same(name, b"threshold") {
         return threshold_line(xs);
@@ -309,18 +350,25 @@ fn read_part(line: &mut [u8], size: usize, numbers: &mut [u32]) -> Gathered {
     }
 }
 
-// A proved loop has to end, and nothing says that the input does: it counts its turns down from a number that no run uses up.
-fn read_all(line: &mut [u8], numbers: &mut [u32]) {
+// Takes in all of the input; the size of a last line that has no end. A proved loop has to end, and nothing says that the input does: it
+// counts its turns down from a number that no run uses up.
+fn take_in_all(line: &mut [u8], numbers: &mut [u32]) -> usize {
     let mut size = 0;
     let mut turns = u64::MAX;
     while turns > 0 {
         let gathered = read_part(line, size, numbers);
+        let more = gathered.more;
         size = gathered.size;
-        turns -= 1;
-        if !gathered.more {
-            turns = 0;
+        if !more {
+            return size;
         }
+        turns -= 1;
     }
+    size
+}
+
+fn run(line: &mut [u8], numbers: &mut [u32]) {
+    let size = take_in_all(line, numbers);
     if size > 0 {
         end_line(line, size, numbers);
     }
@@ -329,5 +377,5 @@ fn read_all(line: &mut [u8], numbers: &mut [u32]) {
 fn main() {
     let mut line = [0u8; 131072];
     let mut numbers = [0u32; 16384];
-    read_all(&mut line, &mut numbers);
+    run(&mut line, &mut numbers);
 }

@@ -10,13 +10,24 @@ stopped-requires : tie.Need-stopped-requires
 stopped-requires c κs = search needs
 
 returns : tie.Need-returns
-returns c = let a = c .before .before .before .args in (λ text ys more s. bad text _ _ _ ys more (c .stopped .ensures .0) (no-digits text _ _ (a .value) ys (a .seen) more s (not-true (a .seen) (c .before .if1 .taken))), (c .stopped .ensures .1, c .stopped .ensures .2))
+returns c =
+    let a = c .before .before .before .args in
+    let e = c .stopped .ensures in (
+      λ text ys more s.
+          bad text _ _ _ ys more (e .0) (no-digits text _ _ (a .value) ys (a .seen) more s (not-true (a .seen) (c .before .if1 .taken))),
+      (e .1, e .2),
+    )
 
 stopped-requires-2 : tie.Need-stopped-requires-2
 stopped-requires-2 c κs = search needs
 
 returns-2 : tie.Need-returns-2
-returns-2 c = let a = c .before .before .before .before .args in (λ text ys more s. bad text _ _ _ ys more (c .stopped2 .ensures .0) (no-place text _ _ (a .value) ys (a .seen) more s (c .before .if2 .taken)), (c .stopped2 .ensures .1, c .stopped2 .ensures .2))
+returns-2 c =
+    let a = c .before .before .before .before .args in
+    let e = c .stopped2 .ensures in (
+      λ text ys more s. bad text _ _ _ ys more (e .0) (no-place text _ _ (a .value) ys (a .seen) more s (c .before .if2 .taken)),
+      (e .1, e .2),
+    )
 
 mul-out : tie.Need-mul-out
 mul-out c = search needs
@@ -34,7 +45,14 @@ same-length : tie.Need-same-length
 same-length c = search needs
 
 returns-3 : tie.Need-returns-3
-returns-3 c = let e = c .with-number .ensures in let a = c .before .before .before .before .args in (λ text ys more s. as-stored text _ ys more (e .0) (e .1) (stored text _ _ (a .value) ys (a .seen) more s (not-false (a .seen) (c .before .before .if1 .left)) (c .before .if2 .left)), (e .2, e .3))
+returns-3 c =
+    let a = c .before .before .before .before .args in
+    let e = c .with-number .ensures in (
+      λ text ys more s.
+          as-stored text _ ys more (e .0) (e .1)
+          (stored text _ _ (a .value) ys (a .seen) more s (not-false (a .seen) (c .before .before .if1 .left)) (c .before .if2 .left)),
+      (e .2, e .3),
+    )
 
 pub ended-spec : {M : Type 1} → statement M
 ended-spec =

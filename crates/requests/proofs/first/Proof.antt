@@ -18,7 +18,9 @@ part-result-end : tie.Need-part-result-end
 part-result-end c = search needs
 
 returns : tie.Need-returns
-returns c = let xs = c .before .before .args .xs .now in ap (λ n. take n xs) (sub-zero (length xs)) ∙ take-length xs ∙ sym (take-all _ xs (c .before .if1 .taken))
+returns c =
+    let xs = c .before .before .args .xs .now in
+    ap (λ n. take n xs) (sub-zero (length xs)) ∙ take-length xs ∙ sym (take-all _ xs (c .before .if1 .taken))
 
 sub-result-2 : tie.Need-sub-result-2
 sub-result-2 c = search needs

@@ -21,7 +21,9 @@ part-result-end : tie.Need-part-result-end
 part-result-end c = search needs
 
 returns : tie.Need-returns
-returns c = let line = c .before .before .before .args .line .now in ap (λ n. take n line) (sub-zero _ ∙ in-line line 32 _ (c .before .find .ensures .0))
+returns c =
+    let line = c .before .before .before .args .line .now in
+    ap (λ n. take n line) (sub-zero _ ∙ in-line line 32 _ (c .before .find .ensures .0))
 
 pub name-spec : {M : Type 1} → statement M
 name-spec = tie.close (tie.spec find-requires sub-result part-result-start part-result-end returns)

@@ -36,7 +36,12 @@ loop-less : tie.Need-loop-less Inv-loop μ-loop
 loop-less c = search needs
 
 loop-again : tie.Need-loop-again Inv-loop μ-loop
-loop-again c = let l = c .before .before .before .before .before .before .loop in (search needs, search needs, c .before .before .step .ensures _ _ (from-place _ _ (l .i) _ _ _ _ (c .before .before .before .before .before .loop-test .taken) (l .inv .2)))
+loop-again c =
+    let l = c .before .before .before .before .before .before .loop in (
+      search needs,
+      search needs,
+      c .before .before .step .ensures _ _ (from-place _ _ (l .i) _ _ _ _ (c .before .before .before .before .before .loop-test .taken) (l .inv .2)),
+    )
 
 finished-requires : tie.Need-finished-requires Inv-loop μ-loop
 finished-requires c κs = search needs
@@ -45,13 +50,21 @@ same-length : tie.Need-same-length Inv-loop μ-loop
 same-length c = search needs
 
 returns : tie.Need-returns Inv-loop μ-loop
-returns c = let l = c .before .before .before .before .before .before .loop in says-bad _ _ _ _ (not-true (c .before .before .before .finished .result .good) (c .if1 .taken)) (c .before .before .before .finished .ensures _ (all-read _ _ (l .i) _ _ _ _ (c .before .before .before .before .before .loop-test .left) (l .inv .2)))
+returns c =
+    let l = c .before .before .before .before .before .before .loop in
+    let f = c .before .before .before .finished in
+    says-bad _ _ _ _ (not-true (f .result .good) (c .if1 .taken))
+    (f .ensures _ (all-read _ _ (l .i) _ _ _ _ (c .before .before .before .before .before .loop-test .left) (l .inv .2)))
 
 same-length-2 : tie.Need-same-length-2 Inv-loop μ-loop
 same-length-2 c = search needs
 
 returns-2 : tie.Need-returns-2 Inv-loop μ-loop
-returns-2 c = let l = c .before .before .before .before .before .before .loop in says-count _ _ _ _ (not-false (c .before .before .before .finished .result .good) (c .if1 .left)) (c .before .before .before .finished .ensures _ (all-read _ _ (l .i) _ _ _ _ (c .before .before .before .before .before .loop-test .left) (l .inv .2)))
+returns-2 c =
+    let l = c .before .before .before .before .before .before .loop in
+    let f = c .before .before .before .finished in
+    says-count _ _ _ _ (not-false (f .result .good) (c .if1 .left))
+    (f .ensures _ (all-read _ _ (l .i) _ _ _ _ (c .before .before .before .before .before .loop-test .left) (l .inv .2)))
 
 pub numbers-spec : {M : Type 1} → statement M
 numbers-spec =

@@ -22,7 +22,8 @@ add-result-2 : tie.Need-add-result-2
 add-result-2 c = search needs
 
 returns-2 : tie.Need-returns-2
-returns-2 c = past-list-none (c .before .before .before .before .args .xs .now) _ (omega (arith, c .if2 .taken, c .before .size-at .ensures))
+returns-2 c =
+    past-list-none (c .before .before .before .before .args .xs .now) _ (omega (arith, c .if2 .taken, c .before .size-at .ensures))
 
 add-result-3 : tie.Need-add-result-3
 add-result-3 c = search needs
@@ -31,7 +32,9 @@ add-result-4 : tie.Need-add-result-4
 add-result-4 c = search needs
 
 returns-3 : tie.Need-returns-3
-returns-3 c = past-list-there (c .before .before .before .before .args .xs .now) _ _ (c .before .size-at .ensures) (omega (arith, c .if2 .left, c .before .before .if1 .left))
+returns-3 c =
+    past-list-there (c .before .before .before .before .args .xs .now) _ _ (c .before .size-at .ensures)
+    (omega (arith, c .if2 .left, c .before .before .if1 .left))
 
 pub past-list-spec : {M : Type 1} → statement M
 past-list-spec =

@@ -23,7 +23,10 @@ part-result-end : tie.Need-part-result-end
 part-result-end c = search needs
 
 returns : tie.Need-returns
-returns c = let line = c .before .before .before .before .args .line .now in nothing-left (indexOf 32 line + 1) line (omega (arith, in-line line 32 _ (c .before .before .find .ensures .0), c .before .if1 .taken))
+returns c =
+    let line = c .before .before .before .before .args .line .now in
+    nothing-left (indexOf 32 line + 1) line
+    (omega (arith, in-line line 32 _ (c .before .before .find .ensures .0), c .before .if1 .taken))
 
 add-start : tie.Need-add-start
 add-start c = search needs
@@ -38,7 +41,9 @@ part-result-end-2 : tie.Need-part-result-end-2
 part-result-end-2 c = search needs
 
 returns-2 : tie.Need-returns-2
-returns-2 c = let line = c .before .before .before .before .args .line .now in rest _ line ∙ ap (λ n. drop (n + 1) line) (in-line line 32 _ (c .before .before .find .ensures .0))
+returns-2 c =
+    let line = c .before .before .before .before .args .line .now in
+    rest _ line ∙ ap (λ n. drop (n + 1) line) (in-line line 32 _ (c .before .before .find .ensures .0))
 
 pub text-spec : {M : Type 1} → statement M
 text-spec =
