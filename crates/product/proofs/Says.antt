@@ -1,7 +1,7 @@
 -- What `product` answers, from what the question of the product rows answers; that it settles the outcome; and that its yes and no are
 -- those of the definition with any two lists b and c.
 -- Assumes nothing.
-use mathlib.Core.Path.{_≡_, refl, sym, ap, ap₂, _∙_}
+use mathlib.Core.Path.{_≡_, refl, sym, ap, ap₂, _∙_, subst}
 use mathlib.Core.Bool.{Bool, true, false, _&&_, true≢false, false≢true}
 use mathlib.Core.List.{List}
 use Prim.Native.Nat.{ℕ, _<_}
@@ -18,8 +18,8 @@ use Rattle.products.proofs.Product.{yes-multiplies, no-product}
 use Rattle.scheme.specs.declared.Shape.{Shape}
 use Rattle.scheme.specs.Refusal.{refusalOf, productRefusal, IsScheme}
 use Rattle.scheme.proofs.Refusals.{Valid, valid, valid-fits, and-true}
-use Rattle.product.specs.declared.Product.{Product}
-use Rattle.product.specs.declared.Product.the-variants.{Yes, No, Refused}
+use Rattle.product.specs.declared.Verdict.{Verdict}
+use Rattle.product.specs.declared.Verdict.the-variants.{Yes, No, Refused}
 use Rattle.product.specs.Says.{HasProduct, Handed, ProductSays}
 use Rattle.product.specs.Steps.{RowsOfProducts}
 
@@ -44,20 +44,22 @@ pub says-refused : (s : Shape) (labels entries r w : List ℕ) (k : ℕ) → k �
 unfolding ProductSays
 says-refused s labels entries r w k e h = (sym e, omega arith, refl, refl)
 
--- The table of the product rows answers for the product rows.
-module _ (s : Shape) (labels entries r w r′ w′ a₀ a : List ℕ) (h : productRefusal s labels entries (length r) (length w) ≡ 0)
-    (t : RowsOfProducts (s .p) (s .d) (s .e) entries a₀ a) where
-  handed : (o : Bool) → Rows.Handed (s .p) (s .d) (pairs (s .e)) (entry (pairs (s .e)) a) every r w o r′ w′ → Handed s entries r w o r′ w′
-  handed o x = handed-same (s .p) (s .d) (pairs (s .e)) (entry (pairs (s .e)) a) (productRows (s .p) (s .e) (entry (s .e) entries)) every every
-      (t .rows) (λ k l. refl) r w o r′ w′ x
+-- What the table of the product rows answers is what the product rows answer.
+pub table-answers : (p d e q : ℕ) (entries a₀ a r w : List ℕ) (o : Bool) (r′ w′ : List ℕ) → q ≡ pairs e → RowsOfProducts p d e entries a₀ a
+    → Rows.Handed p d q (entry q a) every r w o r′ w′ → Rows.Handed p d (pairs e) (productRows p e (entry e entries)) every r w o r′ w′
+table-answers p d e q entries a₀ a r w o r′ w′ e₁ t h =
+    handed-same p d (pairs e) (entry (pairs e) a) (productRows p e (entry e entries)) every every (t .rows) (λ k l. refl) r w o r′ w′
+    (subst (λ (n : ℕ). Rows.Handed p d n (entry n a) every r w o r′ w′) e₁ h)
 
-  pub says-yes : Rows.Handed (s .p) (s .d) (pairs (s .e)) (entry (pairs (s .e)) a) every r w true r′ w′ → ProductSays s labels entries r w Yes r′ w′
+module _ (s : Shape) (labels entries r w r′ w′ : List ℕ) (h : productRefusal s labels entries (length r) (length w) ≡ 0) (o : Bool)
+    (x : Handed s entries r w o r′ w′) where
+  pub says-yes : o ≡ true → ProductSays s labels entries r w Yes r′ w′
   unfolding ProductSays
-  says-yes x = (h, handed true x)
+  says-yes q = (h, subst (λ (o : Bool). Handed s entries r w o r′ w′) q x)
 
-  pub says-no : Rows.Handed (s .p) (s .d) (pairs (s .e)) (entry (pairs (s .e)) a) every r w false r′ w′ → ProductSays s labels entries r w No r′ w′
+  pub says-no : o ≡ false → ProductSays s labels entries r w No r′ w′
   unfolding ProductSays
-  says-no x = (h, handed false x)
+  says-no q = (h, subst (λ (o : Bool). Handed s entries r w o r′ w′) q x)
 
 module _ (s : Shape) (labels entries r w : List ℕ) where
   -- A call that is not refused.
@@ -71,7 +73,7 @@ module _ (s : Shape) (labels entries r w : List ℕ) where
       (productRows (s .p) (s .e) (entry (s .e) entries)) every r w
 
   -- Two outcomes that the contract permits are equal.
-  pub settled : (a b : Product) (r₁ w₁ r₂ w₂ : List ℕ) → ProductSays s labels entries r w a r₁ w₁ → ProductSays s labels entries r w b r₂ w₂
+  pub settled : (a b : Verdict) (r₁ w₁ r₂ w₂ : List ℕ) → ProductSays s labels entries r w a r₁ w₁ → ProductSays s labels entries r w b r₂ w₂
       → (a ≡ b) × (r₁ ≡ r₂) × (w₁ ≡ w₂)
   unfolding ProductSays
   settled Yes Yes r₁ w₁ r₂ w₂ x y = let q = same (x .0) true true r₁ w₁ r₂ w₂ (x .1) (y .1) in (refl, q .1, q .2)

@@ -15,14 +15,12 @@
 //   python3 FOLDER/requests.py 7 3000 base | python3 FOLDER/trials.py --from-json
 // where FOLDER has the second program. The file stdout is what that program answers:
 //   python3 FOLDER/trials.py < crates/trials/stdin
-use ask::Verdict;
 use join::Joined;
-use product::Product;
 use requests::Read;
 use scheme::Outcome;
 use scheme::Shape;
 ghost use mathlib.Core.Path.{_≡_};
-ghost use Prim.Native.Nat.{_+_, _≤_};
+ghost use Prim.Native.Nat.{_≤_};
 ghost use lib.ListN.{length};
 
 const NEWLINE: u8 = 10;
@@ -79,11 +77,11 @@ fn write_outcome(a: Outcome) {
     }
 }
 
-fn write_verdict(a: Verdict) {
+fn write_asked(a: ask::Verdict) {
     match a {
-        Verdict::Open => show::text(b" OPEN"),
-        Verdict::Closed => show::text(b" CLOSED"),
-        Verdict::Refused(k) => show::refused(k),
+        ask::Verdict::Open => show::text(b" OPEN"),
+        ask::Verdict::Closed => show::text(b" CLOSED"),
+        ask::Verdict::Refused(k) => show::refused(k),
     }
 }
 
@@ -99,11 +97,11 @@ fn write_joined(a: Joined) {
     }
 }
 
-fn write_product(a: Product) {
+fn write_product(a: product::Verdict) {
     match a {
-        Product::Yes => show::text(b" YES"),
-        Product::No => show::text(b" NO"),
-        Product::Refused(k) => show::refused(k),
+        product::Verdict::Yes => show::text(b" YES"),
+        product::Verdict::No => show::text(b" NO"),
+        product::Verdict::Refused(k) => show::refused(k),
     }
 }
 
@@ -162,7 +160,7 @@ fn show_ask(xs: &[u32], set: u32, r: &mut [u32], z: &mut [u32]) {
     show::mark(r);
     show::mark(z);
     show::text(b"ask");
-    write_verdict(ask::ask(shape(xs), labels(xs), entries(xs), set, r, z));
+    write_asked(ask::ask(shape(xs), labels(xs), entries(xs), set, r, z));
     show::list(r);
     show::list(z);
 }

@@ -1,26 +1,25 @@
--- `join::turn` meets its contract. The loop's invariant: the first j columns are in their places (`Turning` of proofs/Columns.antt).
+-- `tables::turn` meets its contract. The loop's invariant: the first j columns are in their places (`Turning` of proofs/Columns.antt).
 -- Assumes nothing.
 use mathlib.Core.Path.{_∙_}
 use Prim.Native.Nat.{_-_}
 use native.Mathlib.Omega.{arith}
-use Rattle.linear.specs.Bits.{bit}
-use Rattle.join.proofs.Columns.{Turning, turning-start, turning-turn, turning-end}
-use Rattle.join.proofs.turn.Statement.{statement}
-use Rattle.join.proofs.turn.Tie as tie
+use Rattle.tables.proofs.Columns.{Turning, turning-start, turning-turn, turning-end}
+use Rattle.tables.proofs.turn.Statement.{statement}
+use Rattle.tables.proofs.turn.Tie as tie
 
 abbrev Inv-loop : tie.InvT-loop
-Inv-loop d e chosen entries a₀ j₀ a j = Turning d e (bit chosen) entries a₀ a j
+Inv-loop d e table a₀ j₀ a j = Turning d e table a₀ a j
 
 abbrev μ-loop : tie.MeasureT-loop
-μ-loop d e chosen entries a₀ j₀ a j = e - j
+μ-loop d e table a₀ j₀ a j = e - j
 
 loop-holds : tie.Need-loop-holds Inv-loop μ-loop
-loop-holds c = turning-start _ _ _ _ _
+loop-holds c = turning-start _ _ _ _
 
 column-requires : tie.Need-column-requires Inv-loop μ-loop
 column-requires c κs =
     let q = c .before .before .before .before .before .pre in
-    (q .0, q .1, c .before .loop-test .taken, q .2, c .before .before .loop .inv .size ∙ q .3)
+    (c .before .loop-test .taken, q .0, c .before .before .loop .inv .size ∙ q .1)
 
 add-j : tie.Need-add-j Inv-loop μ-loop
 add-j c = omega arith
@@ -31,14 +30,14 @@ loop-less c = omega arith
 loop-again : tie.Need-loop-again Inv-loop μ-loop
 loop-again c =
     let r = c .before .before .column .ensures in
-    turning-turn _ _ _ _ _ _ _ _ (c .before .before .before .before .before .loop .inv)
-    (c .before .before .before .before .loop-test .taken) (r .0) (r .1 .0) (r .1 .1)
+    turning-turn _ _ _ _ _ _ _ (c .before .before .before .before .before .loop .inv) (c .before .before .before .before .loop-test
+    .taken) (r .0) (r .1 .0) (r .1 .1)
 
 same-length : tie.Need-same-length Inv-loop μ-loop
 same-length c = c .before .loop .inv .size
 
 returns : tie.Need-returns Inv-loop μ-loop
-returns c = let h = c .before .loop .inv in (h .size, turning-end _ _ _ _ _ _ _ h (c .loop-test .left))
+returns c = let h = c .before .loop .inv in (h .size, turning-end _ _ _ _ _ _ h (c .loop-test .left))
 
 pub turn-spec : {M : Type 1} → statement M
 turn-spec =
