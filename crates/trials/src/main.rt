@@ -45,8 +45,12 @@ fn places(xs: &[u32], at: usize) -> usize
     n
 }
 
-fn too_many(xs: &[u32], at: usize) -> bool {
-    requests::size_at(xs, at) > MOST
+// The place after the length of a result list, as requests::past_number; past all numbers where no request lends so many places.
+fn past_places(xs: &[u32], at: usize) -> usize {
+    if requests::size_at(xs, at) > MOST {
+        return requests::past_number(xs, xs.len());
+    }
+    requests::past_number(xs, at)
 }
 
 fn shape(xs: &[u32]) -> Shape {
@@ -135,16 +139,7 @@ fn show_deal(xs: &[u32], secret: u32, randoms: &[u32], shares: &mut [u32]) {
     show::list(shares);
 }
 
-fn deal_line(xs: &[u32]) -> bool {
-    let secret = past_scheme(xs);
-    let randoms = requests::past_number(xs, secret);
-    let shares = requests::past_list(xs, randoms);
-    if requests::past_number(xs, shares) != xs.len() {
-        return false;
-    }
-    if too_many(xs, shares) {
-        return false;
-    }
+fn lend_deal(xs: &[u32], secret: usize, randoms: usize, shares: usize) {
     let mut space = results();
     let n = places(xs, shares);
     show_deal(
@@ -153,6 +148,16 @@ fn deal_line(xs: &[u32]) -> bool {
         requests::list_at(xs, randoms),
         &mut space[0..n],
     );
+}
+
+fn deal_line(xs: &[u32]) -> bool {
+    let secret = past_scheme(xs);
+    let randoms = requests::past_number(xs, secret);
+    let shares = requests::past_list(xs, randoms);
+    if past_places(xs, shares) != xs.len() {
+        return false;
+    }
+    lend_deal(xs, secret, randoms, shares);
     true
 }
 
@@ -165,19 +170,7 @@ fn show_ask(xs: &[u32], set: u32, r: &mut [u32], z: &mut [u32]) {
     show::list(z);
 }
 
-fn ask_line(xs: &[u32]) -> bool {
-    let set = past_scheme(xs);
-    let r = requests::past_number(xs, set);
-    let z = requests::past_number(xs, r);
-    if requests::past_number(xs, z) != xs.len() {
-        return false;
-    }
-    if too_many(xs, r) {
-        return false;
-    }
-    if too_many(xs, z) {
-        return false;
-    }
+fn lend_ask(xs: &[u32], set: usize, r: usize, z: usize) {
     let mut space = results();
     let mut more = results();
     let n = places(xs, r);
@@ -188,6 +181,16 @@ fn ask_line(xs: &[u32]) -> bool {
         &mut space[0..n],
         &mut more[0..m],
     );
+}
+
+fn ask_line(xs: &[u32]) -> bool {
+    let set = past_scheme(xs);
+    let r = requests::past_number(xs, set);
+    let z = past_places(xs, r);
+    if past_places(xs, z) != xs.len() {
+        return false;
+    }
+    lend_ask(xs, set, r, z);
     true
 }
 
@@ -217,23 +220,21 @@ fn show_product(xs: &[u32], r: &mut [u32], w: &mut [u32]) {
     show::list(w);
 }
 
-fn product_line(xs: &[u32]) -> bool {
-    let r = past_scheme(xs);
-    let w = requests::past_number(xs, r);
-    if requests::past_number(xs, w) != xs.len() {
-        return false;
-    }
-    if too_many(xs, r) {
-        return false;
-    }
-    if too_many(xs, w) {
-        return false;
-    }
+fn lend_product(xs: &[u32], r: usize, w: usize) {
     let mut space = results();
     let mut more = results();
     let n = places(xs, r);
     let m = places(xs, w);
     show_product(xs, &mut space[0..n], &mut more[0..m]);
+}
+
+fn product_line(xs: &[u32]) -> bool {
+    let r = past_scheme(xs);
+    let w = past_places(xs, r);
+    if past_places(xs, w) != xs.len() {
+        return false;
+    }
+    lend_product(xs, r, w);
     true
 }
 
