@@ -1,8 +1,8 @@
--- What `product` answers, from what the question of the product rows answers; that it settles the outcome; and that its yes and no are
--- those of the definition with any two lists b and c.
+-- What `product` answers, from what the question of the product rows answers: its yes and no are those of the definition with any two lists
+-- b and c. And that it settles the outcome.
 -- Assumes nothing.
 use mathlib.Core.Path.{_≡_, refl, sym, ap, ap₂, _∙_, subst}
-use mathlib.Core.Bool.{Bool, true, false, _&&_, true≢false, false≢true}
+use mathlib.Core.Bool.{Bool, true, false, _&&_}
 use mathlib.Core.List.{List}
 use Prim.Native.Nat.{ℕ, _<_}
 use native.Mathlib.Omega.{arith}
@@ -20,7 +20,7 @@ use Rattle.scheme.specs.Refusal.{refusalOf, productRefusal, IsScheme}
 use Rattle.scheme.proofs.Refusals.{Valid, valid, valid-fits, and-true}
 use Rattle.product.specs.declared.Verdict.{Verdict}
 use Rattle.product.specs.declared.Verdict.the-variants.{Yes, No, Refused}
-use Rattle.product.specs.Says.{HasProduct, Handed, ProductSays}
+use Rattle.product.specs.Says.{HasProduct, ProductHanded, ProductSays}
 use Rattle.product.specs.Steps.{RowsOfProducts}
 
 -- A call that is not refused is on a valid scheme, and its result lists have their lengths.
@@ -52,49 +52,58 @@ table-answers p d e q entries a₀ a r w o r′ w′ e₁ t h =
     (subst (λ (n : ℕ). Rows.Handed p d n (entry n a) every r w o r′ w′) e₁ h)
 
 module _ (s : Shape) (labels entries r w r′ w′ : List ℕ) (h : productRefusal s labels entries (length r) (length w) ≡ 0) (o : Bool)
-    (x : Handed s entries r w o r′ w′) where
+    (x : ProductHanded s entries r w o r′ w′) where
+  given : Valid s labels entries
+  given = product-valid s labels entries (length r) (length w) h
+
+  at : (b : Bool) → o ≡ b → ProductHanded s entries r w b r′ w′
+  at b q = subst (λ (b : Bool). ProductHanded s entries r w b r′ w′) q x
+
+  -- The r handed out has what the definition asks, for any two lists b and c; with the w handed out no r has it.
   pub says-yes : o ≡ true → ProductSays s labels entries r w Yes r′ w′
   unfolding ProductSays
-  says-yes q = (h, subst (λ (o : Bool). Handed s entries r w o r′ w′) q x)
+  says-yes q = (
+    h,
+    (place r′, yes-multiplies (s .p) (s .d) (s .e) (entry (s .e) entries) (given .e-low) (place r′) (at true q .0)),
+    at true q,
+  )
 
   pub says-no : o ≡ false → ProductSays s labels entries r w No r′ w′
   unfolding ProductSays
-  says-no q = (h, subst (λ (o : Bool). Handed s entries r w o r′ w′) q x)
+  says-no q = (
+    h,
+    no-product (s .p) (s .d) (s .e) (entry (s .e) entries) (given .e-low) (given .prime) (place w′) (at false q .0),
+    at false q,
+  )
 
+-- Two outcomes that the contract permits are equal.
 module _ (s : Shape) (labels entries r w : List ℕ) where
   -- A call that is not refused.
   abbrev Free : Type 0
   Free = productRefusal s labels entries (length r) (length w) ≡ 0
 
-  same : Free → (a b : Bool) (r₁ w₁ r₂ w₂ : List ℕ) → Handed s entries r w a r₁ w₁ → Handed s entries r w b r₂ w₂
-      → (a ≡ b) × (r₁ ≡ r₂) × (w₁ ≡ w₂)
-  same h = let v = product-valid s labels entries (length r) (length w) h in
+  same : Free → (b : Bool) (r₁ w₁ r₂ w₂ : List ℕ) → ProductHanded s entries r w b r₁ w₁ → ProductHanded s entries r w b r₂ w₂
+      → (b ≡ b) × (r₁ ≡ r₂) × (w₁ ≡ w₂)
+  same h b = let v = product-valid s labels entries (length r) (length w) h in
       handed-settled (s .p) (v .prime) (s .d) (pairs (s .e)) (pairs-some (s .e) (v .e-low))
-      (productRows (s .p) (s .e) (entry (s .e) entries)) every r w
+      (productRows (s .p) (s .e) (entry (s .e) entries)) every r w b b
 
-  -- Two outcomes that the contract permits are equal.
   pub settled : (a b : Verdict) (r₁ w₁ r₂ w₂ : List ℕ) → ProductSays s labels entries r w a r₁ w₁ → ProductSays s labels entries r w b r₂ w₂
       → (a ≡ b) × (r₁ ≡ r₂) × (w₁ ≡ w₂)
   unfolding ProductSays
-  settled Yes Yes r₁ w₁ r₂ w₂ x y = let q = same (x .0) true true r₁ w₁ r₂ w₂ (x .1) (y .1) in (refl, q .1, q .2)
-  settled Yes No r₁ w₁ r₂ w₂ x y = absurd (true≢false (same (x .0) true false r₁ w₁ r₂ w₂ (x .1) (y .1) .0))
+  settled Yes Yes r₁ w₁ r₂ w₂ x y = let q = same (x .0) true r₁ w₁ r₂ w₂ (x .2) (y .2) in (refl, q .1, q .2)
+  settled Yes No r₁ w₁ r₂ w₂ x y = absurd (y .1 (x .1))
   settled Yes (Refused k) r₁ w₁ r₂ w₂ x y = absurd (omega (arith, x .0, y .0, y .1))
-  settled No Yes r₁ w₁ r₂ w₂ x y = absurd (false≢true (same (x .0) false true r₁ w₁ r₂ w₂ (x .1) (y .1) .0))
-  settled No No r₁ w₁ r₂ w₂ x y = let q = same (x .0) false false r₁ w₁ r₂ w₂ (x .1) (y .1) in (refl, q .1, q .2)
+  settled No Yes r₁ w₁ r₂ w₂ x y = absurd (x .1 (y .1))
+  settled No No r₁ w₁ r₂ w₂ x y = let q = same (x .0) false r₁ w₁ r₂ w₂ (x .2) (y .2) in (refl, q .1, q .2)
   settled No (Refused k) r₁ w₁ r₂ w₂ x y = absurd (omega (arith, x .0, y .0, y .1))
   settled (Refused j) Yes r₁ w₁ r₂ w₂ x y = absurd (omega (arith, x .0, x .1, y .0))
   settled (Refused j) No r₁ w₁ r₂ w₂ x y = absurd (omega (arith, x .0, x .1, y .0))
   settled (Refused j) (Refused k) r₁ w₁ r₂ w₂ x y = (ap Refused (sym (x .0) ∙ y .0), x .2 ∙ sym (y .2), x .3 ∙ sym (y .3))
 
-  -- The call's yes is the definition's: the r handed out has it, for any two lists b and c.
-  pub yes-is : (r₁ w₁ : List ℕ) → ProductSays s labels entries r w Yes r₁ w₁
+  -- The r handed out is one that the definition asks for.
+  pub vector-multiplies : (r₁ w₁ : List ℕ) → ProductSays s labels entries r w Yes r₁ w₁
       → Multiplies (s .p) (s .d) (s .e) (entry (s .e) entries) (place r₁)
   unfolding ProductSays
-  yes-is r₁ w₁ x = let v = product-valid s labels entries (length r) (length w) (x .0) in
-      yes-multiplies (s .p) (s .d) (s .e) (entry (s .e) entries) (v .e-low) (place r₁) (x .1 .0)
-
-  -- The call's no is the definition's: with the w handed out no r has it.
-  pub no-is : (r₁ w₁ : List ℕ) → ProductSays s labels entries r w No r₁ w₁ → HasProduct s entries → ⊥
-  unfolding ProductSays
-  no-is r₁ w₁ x = let v = product-valid s labels entries (length r) (length w) (x .0) in
-      no-product (s .p) (s .d) (s .e) (entry (s .e) entries) (v .e-low) (v .prime) (place w₁) (x .1 .0)
+  vector-multiplies r₁ w₁ x = let v = product-valid s labels entries (length r) (length w) (x .0) in
+      yes-multiplies (s .p) (s .d) (s .e) (entry (s .e) entries) (v .e-low) (place r₁) (x .2 .0)

@@ -161,8 +161,8 @@ fn product_of(p: u32, d: usize, e: usize, entries: &[u32], r: &mut [u32], w: &mu
     )
 }
 
-// Is there an r such that, for any two dealings, r times the products of the shares adds up to the product of the codes? Wrong answers that
-// the contract rules out: a yes that looks at the squares of the entries alone and forgets the cross terms; a no with a w that some product
+// Is there an r such that, for any two dealings, r times the products of their shares adds up to the product of the secrets, modulo p? Wrong
+// answers that the contract rules out: a yes that looks at the squares of the entries alone and forgets the cross terms; a no with a w that some product
 // row does not kill.
 pub fn product(s: Shape, labels: &[u32], entries: &[u32], r: &mut [u32], w: &mut [u32]) -> Verdict
     ensures { λ a. ⌜ ProductSays s (now (labels .entry)) (now (entries .entry)) (now (r .entry)) (now (w .entry)) a (now (r .exit))
