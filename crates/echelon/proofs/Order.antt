@@ -1,14 +1,14 @@
 -- From the working order of the columns to the document's: combinations, the opening vector, the witness.
 -- Assumes nothing.
-use mathlib.Core.Path.{_≡_, refl, sym, ap, ap₂, _∙_, subst⁻¹}
-use mathlib.Core.Bool.{Bool, true, false, cond}
-use Prim.Native.Nat.{ℕ, zero, suc, _<_, _-_}
+use mathlib.Core.Path.{_≡_, sym, ap, ap₂, _∙_, subst, subst⁻¹}
+use mathlib.Core.Bool.{Bool, false}
+use mathlib.Core.Logic.{⊎-elim}
+use Prim.Native.Nat.{ℕ, zero, suc, _<_, _≤_, _-_}
 use native.Mathlib.Nat.{le-of-suc-le-suc, mod-eq-of-lt, zero-mod}
 use native.Mathlib.Omega.{arith}
-use lib.Dec.{ltb}
-use borrow.Author.Tests.{ltb-true}
 use Rattle.algebra.specs.Ring.{Ring, Field}
 use Rattle.algebra.specs.Sum.{sum, dot}
+use Rattle.algebra.proofs.Cases.{lt-or-ge}
 use Rattle.algebra.proofs.Sum.{sum-cong, sum-first, put-lt, put-at, sum-put, dot-comm}
 use Rattle.residue.specs.Prime.{Prime}
 use Rattle.residue.specs.Residue.{res}
@@ -34,15 +34,19 @@ module _ {A : Type 0} (K : Field A) (f : ℕ) (M : ℕ → ℕ → A) where
   before-last : (k i : ℕ) → i < f → work K f M k i ≡ M k (suc i)
   before-last k i l = put-lt R f (λ i. M k (suc i)) (M k zero) i l
 
-  pub to-work : (m k : ℕ) → Comb K (suc f) M m (M k) → Comb K (suc f) (work K f M) m (work K f M k)
-  to-work m k c = (c .0, λ i l. go i l (ltb i f) refl)
-    where
-      At : ℕ → Bool → Type 0
-      At i b = sum R m (λ l. c .0 l ⊗ cond b (M l (suc i)) (M l zero)) ≡ cond b (M k (suc i)) (M k zero)
+  -- What the rows add up to, read in the working order: t is u with its first place put last.
+  pub to-order : (m : ℕ) (r u t : ℕ → A) → AddUp K (suc f) M m r u → t f ≡ u zero → ((j : ℕ) → j < f → t j ≡ u (suc j))
+      → AddUp K (suc f) (work K f M) m r t
+  to-order m r u t h last before i l = ⊎-elim
+      (λ (b : i < f). sum-cong R m (λ k. r k ⊗ work K f M k i) (λ k. r k ⊗ M k (suc i)) (λ k lk. ap (λ z. r k ⊗ z) (before-last k i b))
+      ∙ h (suc i) (omega arith) ∙ sym (before i b))
+      (λ (b : f ≤ i). let e : f ≡ i = omega arith in subst (λ (i : ℕ). sum R m (λ k. r k ⊗ work K f M k i) ≡ t i) e
+      (sum-cong R m (λ k. r k ⊗ work K f M k f) (λ k. r k ⊗ M k zero) (λ k lk. ap (λ z. r k ⊗ z) (at-last k))
+      ∙ h zero (omega arith) ∙ sym last))
+      (lt-or-ge i f)
 
-      go : (i : ℕ) → i < suc f → (x : Bool) → ltb i f ≡ x → At i (ltb i f)
-      go i l true q = subst⁻¹ (At i) q (c .1 (suc i) (let u = ltb-true i f q in omega arith))
-      go i l false q = subst⁻¹ (At i) q (c .1 zero (omega arith))
+  pub to-work : (m k : ℕ) → Comb K (suc f) M m (M k) → Comb K (suc f) (work K f M) m (work K f M k)
+  to-work m k c = (c .0, to-order m (c .0) (M k) (work K f M k) (c .1) (at-last k) (before-last k))
 
   -- What the working rows add up to, read in the document's order; the target for t at the last place 1.
   pub from-order : (m : ℕ) (r t u : ℕ → A) → AddUp K (suc f) (work K f M) m r t → t f ≡ u zero → ((j : ℕ) → j < f → t j ≡ u (suc j))

@@ -15,6 +15,7 @@ use Rattle.linear.specs.Combination.{total}
 use Rattle.linear.specs.Flat.{place, entry}
 use Rattle.linear.specs.Rows as Rows
 use Rattle.linear.proofs.Handed.{opening-opens, witness-closes}
+use Rattle.linear.proofs.Rows.{opening-same, open-same, closed-same}
 use Rattle.rows.specs.declared.Answer.{Answer}
 use Rattle.linear.specs.Bits.{bit}
 use Rattle.rows.specs.Answered.{Answered}
@@ -29,8 +30,7 @@ use Rattle.join.specs.declared.Joined.the-variants.{Code, Refused}
 use Rattle.join.specs.Says.{JoinSays}
 use Rattle.join.specs.Steps.{FitsRows, RowsSay}
 use Rattle.join.proofs.Read.{read-at}
-use Rattle.linear.proofs.Rows.{opening-same}
-use Rattle.join.proofs.Same.{open-same, closed-same, fits-same}
+use Rattle.join.proofs.Same.{fits-same}
 
 -- What is handed out, once the verdict is known.
 handed-at : (p d e chosen : ℕ) (entries r z : List ℕ) (a : Answer) (r′ z′ : List ℕ) → Answered p d e chosen entries r z a r′ z′ → (o : Bool)
@@ -111,11 +111,11 @@ module _ (s : Shape) (labels entries : List ℕ) (set : ℕ) (shares : List ℕ)
       (r, opening-same _ _ _ _ _ _ _ (λ k j lk lj. refl) (same chosen agree) r o, q),
     )
     says chosen agree (Refused k) u = inr (⊎-elim
-        (λ w. inl (h, w .0, closed-same _ _ _ _ _ _ (λ k l. sym (same chosen agree k l)) (w .1)))
+        (λ w. inl (h, w .0, closed-same _ _ _ _ _ _ _ (λ k j lk lj. refl) (λ k l. sym (same chosen agree k l)) (w .1)))
         (λ w. inr (
           h,
           w .0,
-          open-same _ _ _ _ _ _ (same chosen agree) (w .1),
+          open-same _ _ _ _ _ _ _ (λ k j lk lj. refl) (same chosen agree) (w .1),
           λ f. w .2
               (fits-same _ _ (s .e) (entry (s .e) entries) _ _ (λ k l. sym (same chosen agree k l)) _ (fits-modulo f)),
         ))

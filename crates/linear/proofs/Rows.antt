@@ -202,3 +202,13 @@ module _ (p d e : ℕ) (E F : ℕ → ℕ → ℕ) (b c : ℕ → Bool) (entries
         ∙ w .kills k l (marks k l ∙ q);
     only = w .only;
   }
+
+  pub open-same : Open p d e E b → Open p d e F c
+  open-same o = (
+    o .0,
+    (λ k l q. o .1 k l (marks k l ∙ q)),
+    adds-same p e d E F entries (o .0) (o .0) target target d (omega arith) (λ j l. refl) (λ i l. refl) (o .2),
+  )
+
+  pub closed-same : Closed p d e F c → Closed p d e E b
+  closed-same h o = h (open-same o)

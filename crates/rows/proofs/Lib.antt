@@ -2,4 +2,5 @@ pub mod Lists
 pub mod Steps
 pub mod Turns
 pub mod Ends
+pub mod Verdict
 pub mod Settled

@@ -65,15 +65,18 @@ made-chosen p e k s false m t v nx l = let z = nx .out refl in absurd (omega ari
 made-chosen p e k s true m t v nx l = refl
 
 module _ (p e f d : ℕ) (m : List ℕ) (chosen : ℕ → Bool) (q : e ≡ suc f) where
+  pub state-start : (t : List (List ℕ)) → length t ≡ 12 → Lows p t → State p f (entry e m) chosen 0 0 t
+  state-start t n l = record {
+    len = n;
+    lows = l;
+    fits = omega arith;
+    pivs = λ j l. absurd (not-suc-le-zero l);
+    basis = λ H. start (residues p H) (suc f) (workOf p H f (entry e m) chosen) (linesOf p H t);
+  }
+
   pub going-start : (t : List (List ℕ)) (r : List ℕ) → length t ≡ 12 → Lows p t → Going p f d (entry e m) chosen 0 0 t r false r
   going-start t r n l = record {
-    state = record {
-      len = n;
-      lows = l;
-      fits = omega arith;
-      pivs = λ j l. absurd (not-suc-le-zero l);
-      basis = λ H. start (residues p H) (suc f) (workOf p H f (entry e m) chosen) (linesOf p H t);
-    };
+    state = state-start t n l;
     if-open = λ h. absurd (false≢true h);
     if-closed = λ h. (refl, λ j l. absurd (not-suc-le-zero l));
   }
@@ -156,6 +159,16 @@ module _ (p e f d : ℕ) (m : List ℕ) (chosen : ℕ → Bool) (q : e ≡ suc f
     store-room H le nx l = let w = made-chosen p e k s (ltb s e && chosen k) m t v nx l in
         let u = roomy H (wanted-chosen (ltb s e) (chosen k) w) (nx .made w) l in omega arith
 
+    -- A line with its pivot elsewhere leaves no pivot at the last place.
+    pub pivots-next : (s′ : ℕ) (t′ : List (List ℕ)) → Prime p → e ≤ 12 → Next p e k s (ltb s e && chosen k) m t v → Stored e s v t s′ t′
+        → (getD v 25 0 + 1 ≡ e → ⊥) → ((j : ℕ) → j < s → at t j 25 < f) → (j : ℕ) → j < s′ → at t′ j 25 < f
+    pivots-next s′ t′ H le nx so ne h j lj = ⊎-elim
+        (λ (l : getD v 25 0 < e). let w = so .0 l in let u = store-room H le nx l in
+        subst⁻¹ (λ (t : List (List ℕ)). at t j 25 < f) (w .1)
+        (pivots-set (λ (x : ℕ). x < f) t s v (omega (arith, st .len)) h (omega arith) j (omega (arith, w .0))))
+        (λ (l : e ≤ getD v 25 0). let w = so .1 l in subst⁻¹ (λ (t : List (List ℕ)). at t j 25 < f) (w .1) (h j (omega (arith, w .0))))
+        (lt-or-ge (getD v 25 0) e)
+
     -- Where the pivot is at the last place, the line is the target.
     found : (H : Prime p) → chosen k ≡ true → RowLine p e k s m t v → getD v 25 0 + 1 ≡ e
         → Found p k s t v H (suc f) (workOf p H f (entry e m) chosen) (goal (residues p H) f)
@@ -213,17 +226,9 @@ module _ (p e f d : ℕ) (m : List ℕ) (chosen : ℕ → Bool) (q : e ≡ suc f
         (same? (getD v 25 0 + 1) e);
     if-closed = λ h. ⊎-elim
         (λ (z : getD v 25 0 + 1 ≡ e). absurd (true≢false (sym (se .0 z .0) ∙ h)))
-        (λ ne. let w = se .1 ne in let a = g .if-closed (sym (w .0) ∙ h) in (w .1 ∙ a .0, below ne (a .1)))
+        (λ ne. let w = se .1 ne in let a = g .if-closed (sym (w .0) ∙ h) in (w .1 ∙ a .0, pivots-next k s t (g .state) v s′ t′ H le nx so ne (a .1)))
         (same? (getD v 25 0 + 1) e);
   }
-    where
-      below : (getD v 25 0 + 1 ≡ e → ⊥) → ((j : ℕ) → j < s → at t j 25 < f) → (j : ℕ) → j < s′ → at t′ j 25 < f
-      below ne h j lj = ⊎-elim
-          (λ (l : getD v 25 0 < e). let w = so .0 l in let u = store-room k s t (g .state) v H le nx l in
-          subst⁻¹ (λ (t : List (List ℕ)). at t j 25 < f) (w .1)
-          (pivots-set (λ (x : ℕ). x < f) t s v (omega (arith, g .state .len)) h (omega arith) j (omega (arith, w .0))))
-          (λ (l : e ≤ getD v 25 0). let w = so .1 l in subst⁻¹ (λ (t : List (List ℕ)). at t j 25 < f) (w .1) (h j (omega (arith, w .0))))
-          (lt-or-ge (getD v 25 0) e)
 
   pub witness-end : (s : ℕ) (t : List (List ℕ)) → State p f (entry e m) chosen d s t → Prime p → (y z : List ℕ)
       → ((i : ℕ) → getD y i 0 < p) → getD y f 0 ≡ 1

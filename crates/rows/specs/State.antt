@@ -36,6 +36,11 @@ pub record Going (p f d : ℕ) (E : ℕ → ℕ → ℕ) (chosen : ℕ → Bool)
   pub if-open : opens ≡ true → OpeningVector p d (suc f) E chosen (place r) × (length r ≡ length r₀)
   pub if-closed : opens ≡ false → (r ≡ r₀) × ((j : ℕ) → j < s → at t j 25 < f)
 
+-- The same where r is not wanted: the target has not turned up.
+pub record Unmet (p f : ℕ) (E : ℕ → ℕ → ℕ) (chosen : ℕ → Bool) (k s : ℕ) (t : List (List ℕ)) : Type 0 where
+  pub state : State p f E chosen k s t
+  pub below : (j : ℕ) → j < s → at t j 25 < f
+
 -- Row k of the flat entries in the working order.
 abbrev pub rowAt : ℕ → List ℕ → ℕ → ℕ → ℕ
 rowAt e m k i = cond (ltb i (e - 1)) (getD m (k * e + (1 + i)) 0) (getD m (k * e) 0)

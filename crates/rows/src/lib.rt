@@ -50,7 +50,7 @@ fn wanted(e: usize, chosen: u32, k: usize, s: usize) -> bool
 }
 
 // What row k gives: its line, or a line without a pivot.
-fn next_line(
+pub fn next_line(
     p: u32,
     inv: u64,
     e: usize,
@@ -77,7 +77,7 @@ fn next_line(
 }
 
 // The line kept where it has a pivot; the number of lines after that.
-fn store(e: usize, s: usize, v: [u32; 27], t: &mut [[u32; 27]; 12]) -> usize
+pub fn store(e: usize, s: usize, v: [u32; 27], t: &mut [[u32; 27]; 12]) -> usize
     requires { ⌜ (getD v 25 0 < e → s < 12) ⌝ }
     ensures kept { λ r. ⌜ (getD v 25 0 < e → (r ≡ s + 1) × (now (t .exit) ≡ set (now (t .entry)) s v)) ⌝ }
     ensures dropped { λ r. ⌜ (e ≤ getD v 25 0 → (r ≡ s) × (now (t .exit) ≡ now (t .entry))) ⌝ }
@@ -135,7 +135,8 @@ fn unload(y: &[u32; 27], z: &mut [u32])
     }
 }
 
-fn blank() -> [[u32; 27]; 12]
+// A table without lines.
+pub fn blank() -> [[u32; 27]; 12]
     ensures { λ r. ⌜ (length r ≡ 12) × ((j i : ℕ) → getD (getD r j []) i 0 ≡ 0) ⌝ }
 {
     let z = [0u32; 27];

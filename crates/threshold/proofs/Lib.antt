@@ -1,0 +1,3 @@
+pub mod Ones
+pub mod Search
+pub mod Says
