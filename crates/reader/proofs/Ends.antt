@@ -151,7 +151,7 @@ module _ (s : List ℕ) where
         (atom-ends b n d at (ampersand ∷ (termText t ++ z)) (e ∙ append-assoc (atomText b) (ampersand ∷ termText t) z) (w .0) (ampersand-follows (termText t ++ z)) (omega (arith, m)))
         (termText t) z e (λ f. term-ends t n d (at + length (atomText b) + 1) z f (w .1) a (omega (arith, m)))
 
-    atom-ends : (b : Atom) (n d at : ℕ) (z : List ℕ) → drop at s ≡ atomText b ++ z → WellAtom b d → NoDigit z
+    pub atom-ends : (b : Atom) (n d at : ℕ) (z : List ℕ) → drop at s ≡ atomText b ++ z → WellAtom b d → NoDigit z
         → 3 * length (atomText b) < n → atomEnd n s d at ≡ At (at + length (atomText b))
     atom-ends (number i) zero d at z e w a l = absurd (not-suc-le-zero l)
     atom-ends (number i) (suc n) d at z e w a l = number-ends n s d at i z e (w .0) (w .1) a
