@@ -1,1 +1,4 @@
 pub mod Grammar
+pub mod Scan
+pub mod Recognised
+pub mod Refusal

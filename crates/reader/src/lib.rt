@@ -1,8 +1,14 @@
 // Written rules read: whether a text is a rule, and what is refused of it.
 ghost use mathlib.Core.Path.{_≡_};
-ghost use Prim.Native.Nat.{ℕ, _+_, _*_, _-_, _<_};
+ghost use mathlib.Core.Bool.{cond};
+ghost use Prim.Native.Nat.{ℕ, _+_, _*_, _-_, _<_, _≤_};
+ghost use lib.Dec.{eqb};
 ghost use lib.ListN.{length};
+ghost use Rattle.rules.specs.Bytes.{occurs};
 ghost use Rattle.reader.specs.Grammar.{classOf, kindAt, numberEnd, ruleEnd, termEnd, atomEnd, Within};
+ghost use Rattle.reader.specs.Recognised.{Recognised};
+ghost use Rattle.reader.specs.Scan.{further, upTo};
+ghost use Rattle.reader.specs.Refusal.{TextRefusal};
 
 // What a byte is: a digit from 1 to 9, the digit 0, one of the four signs, or none of these.
 pub enum Kind {
@@ -121,4 +127,93 @@ pub fn atom(text: &[u8], depth: usize, at: usize) -> Read
         }
         _ => Read::Bad,
     }
+}
+
+pub fn is_rule(text: &[u8]) -> bool
+    ensures { λ r. ⌜ Recognised (now (text .entry)) r ⌝ }
+{
+    if text.len() < 1 {
+        return false;
+    }
+    if text.len() > 256 {
+        return false;
+    }
+    let t = rule(text, 8, 0);
+    let Read::At(q) = t else {
+        return false;
+    };
+    q == text.len()
+}
+
+fn one_if_same(x: u8, b: u8) -> usize
+    ensures { λ r. ⌜ (r ≡ cond (eqb x b) 1 0) × (r ≤ 1) ⌝ }
+{
+    if x == b { 1 } else { 0 }
+}
+
+// How often a byte stands in a text.
+fn occurrences(text: &[u8], b: u8) -> usize
+    ensures { λ r. ⌜ r ≡ occurs b (now (text .entry)) ⌝ }
+{
+    let mut i = 0;
+    let mut n = 0;
+    while i < text.len() {
+        let x = text[i];
+        n = n + one_if_same(x, b);
+        i += 1;
+    }
+    n
+}
+
+// The number that is written so far, one byte further.
+fn read_on(v: u64, b: u8) -> u64
+    requires { ⌜ v < 4294967296 ⌝ }
+    ensures { λ r. ⌜ r ≡ further v b ⌝ }
+{
+    if b < 48 {
+        return 0;
+    }
+    if b > 57 {
+        return 0;
+    }
+    v * 10 + (b - 48) as u64
+}
+
+// Whether each number of a text is at most n.
+fn named(text: &[u8], n: u32) -> bool
+    ensures { λ r. ⌜ r ≡ upTo n 0 (now (text .entry)) ⌝ }
+{
+    let most = n as u64;
+    let mut i = 0;
+    let mut v = 0;
+    while i < text.len() {
+        let b = text[i];
+        v = read_on(v, b);
+        if v > most {
+            return false;
+        }
+        i += 1;
+    }
+    true
+}
+
+// What is refused of a text: 13 where it is no rule, 14 to 16 of the rule that it is, 0 for nothing.
+pub fn refusal(n: u32, text: &[u8]) -> u32
+    ensures { λ k. ⌜ TextRefusal n (now (text .entry)) k ⌝ }
+{
+    if !is_rule(text) {
+        return 13;
+    }
+    if !named(text, n) {
+        return 14;
+    }
+    let ands = occurrences(text, 38);
+    let ors = occurrences(text, 124);
+    if ands + ors > 31 {
+        return 15;
+    }
+    if ands > 11 {
+        return 16;
+    }
+    0
 }

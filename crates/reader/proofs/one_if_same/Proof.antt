@@ -1,0 +1,18 @@
+-- `reader::one_if_same` meets its contract.
+-- Assumes nothing.
+use borrow.Author.Tests.{eq-eqb, ne-eqb}
+use borrow.Author.Needs.{needs}
+use native.Mathlib.Omega.{arith}
+use Rattle.reader.proofs.one_if_same.Statement.{statement}
+use Rattle.reader.proofs.one_if_same.Tie as tie
+use Rattle.reader.proofs.one_if_same.Reads as reads
+use Rattle.reader.proofs.one_if_same.Lts as lts
+
+returns : tie.Need-returns
+returns c = (simp (eq-eqb _ _ (c .if1 .taken)), omega arith)
+
+returns-2 : tie.Need-returns-2
+returns-2 c = (simp (ne-eqb _ _ (c .if1 .left)), omega arith)
+
+pub one-if-same-spec : {M : Type 1} → statement M
+one-if-same-spec = tie.close (tie.spec returns returns-2)
