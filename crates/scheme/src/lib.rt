@@ -20,7 +20,7 @@ pub enum Outcome {
     Refused(u32),
 }
 
-fn between(lo: usize, hi: usize, x: usize) -> bool
+pub fn between(lo: usize, hi: usize, x: usize) -> bool
     ensures { λ r. ⌜ r ≡ within lo hi x ⌝ }
 {
     if x < lo {
