@@ -31,28 +31,24 @@ fn front_refusal(p: u32, n: u32, lplaces: usize, eplaces: usize) -> u32
     0
 }
 
-// The first d labels copied.
-fn copy_labels(d: usize, from: &[u32], labels: &mut [u32])
-    requires { ⌜ (d ≤ length (now from)) × (d ≤ length (now labels)) ⌝ }
-    ensures { λ _. ⌜ Filled 0 d (place (now (from .entry))) (now (labels .entry)) (now (labels .exit)) d ⌝ }
+// A list copied over another, from place `at` on.
+fn copy(from: &[u32], at: usize, to: &mut [u32])
+    requires { ⌜ at + length (now from) ≤ length (now to) ⌝ }
+    ensures { λ _. ⌜ Filled at (length (now (from .entry))) (place (now (from .entry))) (now (to .entry)) (now (to .exit)) (length (now (from .entry))) ⌝ }
 {
     let mut k = 0;
-    while k < d {
-        labels[k] = from[k];
+    while k < from.len() {
+        to[at + k] = from[k];
         k += 1;
     }
 }
 
-// The first e numbers of a row copied, from place `at` on.
-fn copy_row(e: usize, at: usize, row: [u32; 12], entries: &mut [u32])
-    requires { ⌜ (e ≤ 12) × (at + e ≤ length (now entries)) ⌝ }
-    ensures { λ _. ⌜ Filled at e (place row) (now (entries .entry)) (now (entries .exit)) e ⌝ }
+// The first e numbers of a row copied.
+fn copy_row(e: usize, row: [u32; 12], at: usize, to: &mut [u32])
+    requires { ⌜ (e ≤ 12) × (at + e ≤ length (now to)) ⌝ }
+    ensures { λ _. ⌜ Filled at e (place row) (now (to .entry)) (now (to .exit)) e ⌝ }
 {
-    let mut j = 0;
-    while j < e {
-        entries[at + j] = row[j];
-        j += 1;
-    }
+    copy(&row[0..e], at, to);
 }
 
 // The first d rows copied, e numbers each, one after another.
@@ -63,7 +59,7 @@ fn copy_rows(d: usize, e: usize, table: &[[u32; 12]], entries: &mut [u32])
     let mut k = 0;
     while k < d {
         let row = table[k];
-        copy_row(e, k * e, row, entries);
+        copy_row(e, row, k * e, entries);
         k += 1;
     }
 }
@@ -85,7 +81,7 @@ fn write(
     let made = builder::make(p, text, &mut *ents, &mut *labs);
     let d = made.row;
     let e = made.col;
-    copy_labels(d, labs, labels);
+    copy(&labs[0..d], 0, labels);
     copy_rows(d, e, ents, entries);
     Shape { p, n, d, e }
 }

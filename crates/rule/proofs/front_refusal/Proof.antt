@@ -1,40 +1,37 @@
-use native.Mathlib.Omega.{arith}
-use borrow.Author.Needs.{needs}
+-- `rule::front_refusal` meets its contract: at each return the tests before it passed, and its own failed.
+-- Assumes nothing.
+use Rattle.scheme.proofs.Tests.{failed, passed}
 use Rattle.rule.proofs.front_refusal.Statement.{statement}
 use Rattle.rule.proofs.front_refusal.Tie as tie
-use Rattle.rule.proofs.front_refusal.Reads as reads
-use Rattle.rule.proofs.front_refusal.Lts as lts
-use Rattle.residue.proofs.is_modulus.Reads as is-modulus-reads
-use Rattle.scheme.proofs.between.Reads as between-reads
-use Rattle.scheme.proofs.both_same.Reads as both-same-reads
 
--- src/lib.rt:22:9
 is-modulus-requires : tie.Need-is-modulus-requires
-is-modulus-requires c κs = search needs
+is-modulus-requires c κs = tt
 
--- src/lib.rt:23:9
 returns : tie.Need-returns
-returns c = search needs
+returns c = simp (failed (c .before .is-modulus .ensures) (c .if1 .taken))
 
--- src/lib.rt:25:9
 between-requires : tie.Need-between-requires
-between-requires c κs = search needs
+between-requires c κs = tt
 
--- src/lib.rt:26:9
 returns-2 : tie.Need-returns-2
-returns-2 c = search needs
+returns-2 c =
+    let p = passed (c .before .before .before .is-modulus .ensures) (c .before .before .if1 .left) in
+    simp (p, failed (c .before .between .ensures) (c .if2 .taken))
 
--- src/lib.rt:28:9
 both-same-requires : tie.Need-both-same-requires
-both-same-requires c κs = search needs
+both-same-requires c κs = tt
 
--- src/lib.rt:29:9
 returns-3 : tie.Need-returns-3
-returns-3 c = search needs
+returns-3 c =
+    let p = passed (c .before .before .before .before .before .is-modulus .ensures) (c .before .before .before .before .if1 .left) in
+    let n = passed (c .before .before .before .between .ensures) (c .before .before .if2 .left) in
+    simp (p, n, failed (c .before .both-same .ensures) (c .if3 .taken))
 
--- src/lib.rt:19:1
 returns-4 : tie.Need-returns-4
-returns-4 c = search needs
+returns-4 c =
+    let p = passed (c .before .before .before .before .before .is-modulus .ensures) (c .before .before .before .before .if1 .left) in
+    let n = passed (c .before .before .before .between .ensures) (c .before .before .if2 .left) in
+    simp (p, n, passed (c .before .both-same .ensures) (c .if3 .left))
 
 pub front-refusal-spec : {M : Type 1} → statement M
 front-refusal-spec =
