@@ -19,7 +19,8 @@ use Rattle.scheme.proofs.Refusals.{orElse-zero, unless-zero}
 use Rattle.rules.specs.Tree.{Rule, ruleNames}
 use Rattle.rules.specs.Text.{IsRule}
 use Rattle.rules.specs.Construction.{columns, rows, labelsOf, entriesOf}
-use Rattle.rules.proofs.Counting.{labels-are, rows-count, entries-length, entries-at}
+use Rattle.rules.proofs.Counting.{labels-are, rows-count, rows-below, entries-length, entries-at}
+use Rattle.rules.proofs.Numbers.{rowEntry}
 use Rattle.reader.specs.Refusal.{ruleRefusal, TextRefusal}
 use Rattle.builder.specs.declared.Place.{Place}
 use Rattle.builder.specs.Made.{Held, Made}
@@ -51,6 +52,37 @@ rule-fits n r h =
       few-columns = leb-true (columns r) 12 (unless-zero narrow 15 (b .1));
     }
 
+-- Place i of a table of d rows of e numbers: its row and its column.
+record RowPlace (d e i : ℕ) : Type 0 where
+  row : i / e < d
+  column : i % e < e
+  sum : i / e * e + i % e ≡ i
+
+row-place : (d e i : ℕ) → 0 < e → i < d * e → RowPlace d e i
+row-place d e i h l = record {
+  row = div-lt-iff-lt-mul {k = e} {x = i} {y = d} h .1 l;
+  column = mod-lt i h;
+  sum = div-add-mod' i e;
+}
+
+-- The entry at a place of the rule's entries, row by row.
+entry-place : (p : ℕ) (r : Rule) (i : ℕ) → i < length (ruleNames r) * columns r
+    → getD (entriesOf (rows p r)) i 0 ≡ rowEntry (rows p r) (i / columns r) (i % columns r)
+entry-place p r i l =
+    let q = row-place (length (ruleNames r)) (columns r) i (omega arith) l in
+    ap (λ (m : ℕ). getD (entriesOf (rows p r)) m 0) (sym (q .sum))
+    ∙ entries-at p r (i / columns r) (i % columns r) (omega (arith, rows-count p r, q .row)) (q .column)
+
+pub entries-size : (p : ℕ) (r : Rule) → length (entriesOf (rows p r)) ≡ length (ruleNames r) * columns r
+entries-size p r = entries-length p r ∙ ap (λ (d : ℕ). d * columns r) (rows-count p r)
+
+-- Each entry is below p.
+pub entries-below : (p : ℕ) (r : Rule) → 1 < p → (i : ℕ) → i < length (ruleNames r) * columns r → getD (entriesOf (rows p r)) i 0 < p
+entries-below p r l i li =
+    let q = row-place (length (ruleNames r)) (columns r) i (omega arith) li in
+    let b = rows-below p r l (i / columns r) (i % columns r) (omega (arith, rows-count p r, q .row)) in
+    omega (arith, entry-place p r i li)
+
 -- The rows and labels that the builder has left, copied.
 module _ (p : ℕ) (r : Rule) (made : Place) (es : List (List ℕ)) (ls : List ℕ) (held : Held p r made es ls) where
   labels-written : (labels labels′ : List ℕ) → length (ruleNames r) ≤ length labels
@@ -65,21 +97,18 @@ module _ (p : ℕ) (r : Rule) (made : Place) (es : List (List ℕ)) (ls : List �
   entries-written : (entries entries′ : List ℕ) → length (ruleNames r) * columns r ≤ length entries
       → Copied (length (ruleNames r)) (columns r) es entries entries′ → entries′ ≡ over (entriesOf (rows p r)) entries
   entries-written entries entries′ l h =
-      let size : length (entriesOf (rows p r)) ≡ length (ruleNames r) * columns r
-          = entries-length p r ∙ ap (λ (d : ℕ). d * columns r) (rows-count p r) in
+      let size = entries-size p r in
       over-is (entriesOf (rows p r)) entries entries′ (h .size) (omega arith)
       (λ i li. at-row i (omega arith)) (λ i li. h .after i (omega arith))
     where
       at-row : (i : ℕ) → i < length (ruleNames r) * columns r → getD entries′ i 0 ≡ getD (entriesOf (rows p r)) i 0
       at-row i l =
+          let q = row-place (length (ruleNames r)) (columns r) i (omega arith) l in
           let k = i / columns r in
           let j = i % columns r in
-          let q : k * columns r + j ≡ i = div-add-mod' i (columns r) in
-          let lk : k < length (ruleNames r) = div-lt-iff-lt-mul {k = columns r} {x = i} {y = length (ruleNames r)} (omega arith) .1 l in
-          let lj : j < columns r = mod-lt i (omega arith) in
-          ap (λ (m : ℕ). getD entries′ m 0) (sym q) ∙ h .done k j lk lj ∙ sym (getD-take (columns r) (getD es k []) j 0 lj)
-          ∙ ap (λ x. getD x j 0) (held .entries k lk)
-          ∙ sym (entries-at p r k j (omega (arith, rows-count p r)) lj) ∙ ap (λ (m : ℕ). getD (entriesOf (rows p r)) m 0) q
+          ap (λ (m : ℕ). getD entries′ m 0) (sym (q .sum)) ∙ h .done k j (q .row) (q .column)
+          ∙ sym (getD-take (columns r) (getD es k []) j 0 (q .column)) ∙ ap (λ x. getD x j 0) (held .entries k (q .row))
+          ∙ sym (entry-place p r i l)
 
 module _ (p n : ℕ) (t : List ℕ) (es : List (List ℕ)) (ls : List ℕ) (made : Place) (es′ : List (List ℕ)) (ls′ : List ℕ)
     (h : TextRefusal n t 0) (m : Made p t es ls made es′ ls′) (a : 32 ≤ length es) (b : 32 ≤ length ls) where

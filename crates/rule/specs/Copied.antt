@@ -22,4 +22,4 @@ pub record Copied (d e : ℕ) (table : List (List ℕ)) (x₀ x : List ℕ) : Ty
 abbrev pub Written : ℕ → ℕ → List ℕ → List ℕ → List ℕ → Shape → List ℕ → List ℕ → Type 0
 Written p n t labels entries s labels′ entries′ =
     (r : Rule) × IsRule t r × (ruleRefusal n r ≡ 0) × (s ≡ shapeOf p n r)
-        × (labels′ ≡ over (labelsOf (rows p r)) labels) × (entries′ ≡ over (entriesOf (rows p r)) entries)
+    × (labels′ ≡ over (labelsOf (rows p r)) labels) × (entries′ ≡ over (entriesOf (rows p r)) entries)

@@ -36,9 +36,9 @@ shapeOf p n r = record { p = p; n = n; d = length (ruleNames r); e = columns r }
 unfoldable pub RuleSays : ℕ → ℕ → List ℕ → List ℕ → List ℕ → Built → List ℕ → List ℕ → Type 0
 RuleSays p n t labels entries (Scheme s) labels′ entries′ =
     (frontRefusal p n (length labels) (length entries) ≡ 0)
-        × ((r : Rule) × IsRule t r × (ruleRefusal n r ≡ 0) × (s ≡ shapeOf p n r)
-        × (labels′ ≡ over (labelsOf (rows p r)) labels) × (entries′ ≡ over (entriesOf (rows p r)) entries))
+    × ((r : Rule) × IsRule t r × (ruleRefusal n r ≡ 0) × (s ≡ shapeOf p n r)
+    × (labels′ ≡ over (labelsOf (rows p r)) labels) × (entries′ ≡ over (entriesOf (rows p r)) entries))
 RuleSays p n t labels entries (Refused k) labels′ entries′ =
     (((frontRefusal p n (length labels) (length entries) ≡ k) × (0 < k))
-        ⊎ ((frontRefusal p n (length labels) (length entries) ≡ 0) × TextRefusal n t k × (0 < k)))
-        × (labels′ ≡ labels) × (entries′ ≡ entries)
+    ⊎ ((frontRefusal p n (length labels) (length entries) ≡ 0) × TextRefusal n t k × (0 < k)))
+    × (labels′ ≡ labels) × (entries′ ≡ entries)

@@ -109,6 +109,14 @@ pub fn build(p: u32, n: u32, text: &[u8], labels: &mut [u32], entries: &mut [u32
     }
     let mut ents = blank();
     let mut labs = [0u32; 32];
-    let s = write(p, n, text, &mut ents[0..32], &mut labs[0..32], labels, entries);
+    let s = write(
+        p,
+        n,
+        text,
+        &mut ents[0..32],
+        &mut labs[0..32],
+        labels,
+        entries,
+    );
     Built::Scheme(s)
 }
