@@ -65,7 +65,12 @@ ands-returns : (t : ℕ) → ands-lts.Need-returns (
   ands-below t,
   ands.Post,
 ) (ands-at t) ands.Post
-ands-returns t c = (ands-bad (c .before .before .before .before .args .text .now) (c .before .before .before .before .args .depth) (c .before .before .before .before .args .at) (c .before .before .atom .result) (λ n h. c .before .before .atom .ensures .0 n (omega arith)) (c .enum-told .given .1), omega arith)
+ands-returns t c =
+    let a = c .before .before .before .before .args in
+    let first = c .before .before .atom in (
+      ands-bad (a .text .now) (a .depth) (a .at) (first .result) (λ n h. first .ensures .0 n (omega arith)) (c .enum-told .given .1),
+      omega arith,
+    )
 
 ands-kind-at-requires : (t : ℕ) → ands-lts.Need-kind-at-requires (
   atom-reads.Asked,
@@ -105,7 +110,12 @@ ands-ands-requires : (t : ℕ) → ands-lts.Need-ands-requires (
   ands-below t,
   ands.Post,
 ) (ands-at t) ands.Post
-ands-ands-requires t c κs = let l = seen-as _ _ _ _ (c .before .before .kind-at .ensures) (c .enum-told2 .given .1) tt in let w = (subst (Within (c .before .before .before .before .before .before .before .before .args .at)) (c .before .before .before .before .t .given .1) (c .before .before .before .before .before .before .atom .ensures .1)) in (omega arith, tt)
+ands-ands-requires t c κs =
+    let a = c .before .before .before .before .before .before .before .before .args in
+    let first = c .before .before .before .before .before .before .atom in
+    let l = seen-as _ _ _ _ (c .before .before .kind-at .ensures) (c .enum-told2 .given .1) tt in
+    let w = (subst (Within (a .at)) (c .before .before .before .before .t .given .1) (first .ensures .1)) in
+    (omega arith, tt)
 
 ands-add-result : (t : ℕ) → ands-lts.Need-add-result (
   atom-reads.Asked,
@@ -115,7 +125,10 @@ ands-add-result : (t : ℕ) → ands-lts.Need-add-result (
   ands-below t,
   ands.Post,
 ) (ands-at t) ands.Post
-ands-add-result t c = let l = seen-as _ _ _ _ (c .before .before .before .kind-at .ensures) (c .before .enum-told2 .given .1) tt in let m = c .ands .ensures .1 in search needs
+ands-add-result t c =
+    let l = seen-as _ _ _ _ (c .before .before .before .kind-at .ensures) (c .before .enum-told2 .given .1) tt in
+    let m = c .ands .ensures .1 in
+    search needs
 
 ands-returns-2 : (t : ℕ) → ands-lts.Need-returns-2 (
   atom-reads.Asked,
@@ -125,7 +138,18 @@ ands-returns-2 : (t : ℕ) → ands-lts.Need-returns-2 (
   ands-below t,
   ands.Post,
 ) (ands-at t) ands.Post
-ands-returns-2 t c = let l = seen-as _ _ _ _ (c .before .before .before .kind-at .ensures) (c .before .enum-told2 .given .1) tt in let w = (subst (Within (c .before .before .before .before .before .before .before .before .before .args .at)) (c .before .before .before .before .before .t .given .1) (c .before .before .before .before .before .before .before .atom .ensures .1)) in let m = c .ands .ensures .1 in (ands-more (c .before .before .before .before .before .before .before .before .before .args .text .now) (c .before .before .before .before .before .before .before .before .before .args .depth) (c .before .before .before .before .before .before .before .before .before .args .at) (c .before .before .before .before .before .before .before .atom .result) (λ n h. c .before .before .before .before .before .before .before .atom .ensures .0 n (omega arith)) (c .before .before .before .before .before .t .given .0 .0) (c .ands .result) (c .before .before .before .before .before .t .given .1) (sym (c .before .before .before .kind-at .ensures) ∙ c .before .enum-told2 .given .1) l w (λ n h. c .ands .ensures .0 n h), omega arith)
+ands-returns-2 t c =
+    let a = c .before .before .before .before .before .before .before .before .before .args in
+    let first = c .before .before .before .before .before .before .before .atom in
+    let read = c .before .before .before .before .before .t in
+    let kind = c .before .before .before .kind-at in
+    let l = seen-as _ _ _ _ (kind .ensures) (c .before .enum-told2 .given .1) tt in
+    let w = (subst (Within (a .at)) (read .given .1) (first .ensures .1)) in
+    let m = c .ands .ensures .1 in (
+      ands-more (a .text .now) (a .depth) (a .at) (first .result) (λ n h. first .ensures .0 n (omega arith)) (read .given .0 .0)
+          (c .ands .result) (read .given .1) (sym (kind .ensures) ∙ c .before .enum-told2 .given .1) l w (λ n h. c .ands .ensures .0 n h),
+      omega arith,
+    )
 
 ands-returns-3 : (t : ℕ) → ands-lts.Need-returns-3 (
   atom-reads.Asked,
@@ -135,7 +159,14 @@ ands-returns-3 : (t : ℕ) → ands-lts.Need-returns-3 (
   ands-below t,
   ands.Post,
 ) (ands-at t) ands.Post
-ands-returns-3 t c = (ands-none (c .before .before .before .before .before .before .before .args .text .now) (c .before .before .before .before .before .before .before .args .depth) (c .before .before .before .before .before .before .before .args .at) (c .before .before .before .before .before .atom .result) (λ n h. c .before .before .before .before .before .atom .ensures .0 n (omega arith)) (c .before .before .before .t .given .0 .0) (c .before .before .before .t .given .1) (rw (← c .before .kind-at .ensures) (not-and (c .before .kind-at .result) (c .match2 .keys2))), omega arith)
+ands-returns-3 t c =
+    let a = c .before .before .before .before .before .before .before .args in
+    let first = c .before .before .before .before .before .atom in
+    let read = c .before .before .before .t in (
+      ands-none (a .text .now) (a .depth) (a .at) (first .result) (λ n h. first .ensures .0 n (omega arith)) (read .given .0 .0)
+          (read .given .1) (rw (← c .before .kind-at .ensures) (not-and (c .before .kind-at .result) (c .match2 .keys2))),
+      omega arith,
+    )
 
 pub +ands-spec : {M : Type 1} → statement M
 +ands-spec = close μ-ands λ t. ands-lts.spec (

@@ -101,10 +101,14 @@ build-atom-enum-known-k : (t : ℕ) → build-atom-lts.Need-enum-known-k (build-
 build-atom-enum-known-k t c = search needs
 
 build-atom-value-at-requires : (t : ℕ) → build-atom-lts.Need-value-at-requires (build-atom-claims t) (build-atom-at t) build-atom.Post
-build-atom-value-at-requires t c κs = let l = seen-as _ _ _ _ (c .before .before .before .kind-at .ensures) (c .before .k .given .1) tt in l
+build-atom-value-at-requires t c κs =
+    let l = seen-as _ _ _ _ (c .before .before .before .kind-at .ensures) (c .before .k .given .1) tt in
+    l
 
 build-atom-number-end-requires : (t : ℕ) → build-atom-lts.Need-number-end-requires (build-atom-claims t) (build-atom-at t) build-atom.Post
-build-atom-number-end-requires t c κs = let l = seen-as _ _ _ _ (c .before .before .before .before .kind-at .ensures) (c .before .before .k .given .1) tt in l
+build-atom-number-end-requires t c κs =
+    let l = seen-as _ _ _ _ (c .before .before .before .before .kind-at .ensures) (c .before .before .k .given .1) tt in
+    l
 
 build-atom-put-requires : (t : ℕ) → build-atom-lts.Need-put-requires (build-atom-claims t) (build-atom-at t) build-atom.Post
 build-atom-put-requires t c κs = search needs
@@ -125,16 +129,26 @@ build-atom-enum-told-2 : (t : ℕ) → build-atom-lts.Need-enum-told-2 (build-at
 build-atom-enum-told-2 t c = search needs
 
 build-atom-returns : (t : ℕ) → build-atom-lts.Need-returns (build-atom-claims t) (build-atom-at t) build-atom.Post
-build-atom-returns t c = (at-deep (c .before .before .before .before .before .before .args .text .now) (c .before .before .before .before .before .before .args .p) (c .before .before .before .before .before .before .args .depth) (c .before .before .before .before .before .before .args .v) (out (c .before .before .before .before .before .before .args .ents .now) (c .before .before .before .before .before .before .args .labs .now) (c .before .before .before .before .before .before .args .st)) (sym (c .before .before .before .kind-at .ensures) ∙ c .before .enum-told2 .given .1) (c .if2 .taken), never)
+build-atom-returns t c =
+    let a = c .before .before .before .before .before .before .args in (
+      at-deep (a .text .now) (a .p) (a .depth) (a .v) (out (a .ents .now) (a .labs .now) (a .st))
+          (sym (c .before .before .before .kind-at .ensures) ∙ c .before .enum-told2 .given .1) (c .if2 .taken),
+      never,
+    )
 
 build-atom-add-build-rule : (t : ℕ) → build-atom-lts.Need-add-build-rule (build-atom-claims t) (build-atom-at t) build-atom.Post
-build-atom-add-build-rule t c = let l = seen-as _ _ _ _ (c .before .before .before .kind-at .ensures) (c .before .enum-told2 .given .1) tt in omega arith
+build-atom-add-build-rule t c =
+    let l = seen-as _ _ _ _ (c .before .before .before .kind-at .ensures) (c .before .enum-told2 .given .1) tt in
+    omega arith
 
 build-atom-sub-build-rule : (t : ℕ) → build-atom-lts.Need-sub-build-rule (build-atom-claims t) (build-atom-at t) build-atom.Post
 build-atom-sub-build-rule t c = search needs
 
 build-atom-build-rule-requires : (t : ℕ) → build-atom-lts.Need-build-rule-requires (build-atom-claims t) (build-atom-at t) build-atom.Post
-build-atom-build-rule-requires t c κs = let l = seen-as _ _ _ _ (c .before .before .before .before .before .kind-at .ensures) (c .before .before .before .enum-told2 .given .1) tt in (omega arith, c .before .before .before .before .before .before .before .before .pre .1)
+build-atom-build-rule-requires t c κs =
+    let kind = c .before .before .before .before .before .kind-at in
+    let l = seen-as _ _ _ _ (kind .ensures) (c .before .before .before .enum-told2 .given .1) tt in
+    (omega arith, c .before .before .before .before .before .before .before .before .pre .1)
 
 build-atom-kind-at-requires-2 : (t : ℕ) → build-atom-lts.Need-kind-at-requires-2 (build-atom-claims t) (build-atom-at t) build-atom.Post
 build-atom-kind-at-requires-2 t c κs = search needs
@@ -143,7 +157,9 @@ build-atom-enum-told-3 : (t : ℕ) → build-atom-lts.Need-enum-told-3 (build-at
 build-atom-enum-told-3 t c = search needs
 
 build-atom-add-t38 : (t : ℕ) → build-atom-lts.Need-add-t38 (build-atom-claims t) (build-atom-at t) build-atom.Post
-build-atom-add-t38 t c = let l = seen-as _ _ _ _ (c .before .before .kind-at2 .ensures) (c .enum-told3 .given .1) tt in omega arith
+build-atom-add-t38 t c =
+    let l = seen-as _ _ _ _ (c .before .before .kind-at2 .ensures) (c .enum-told3 .given .1) tt in
+    omega arith
 
 build-atom-same-length : (t : ℕ) → build-atom-lts.Need-same-length (build-atom-claims t) (build-atom-at t) build-atom.Post
 build-atom-same-length t c = search needs
@@ -152,7 +168,21 @@ build-atom-same-length-2 : (t : ℕ) → build-atom-lts.Need-same-length-2 (buil
 build-atom-same-length-2 t c = search needs
 
 build-atom-returns-2 : (t : ℕ) → build-atom-lts.Need-returns-2 (build-atom-claims t) (build-atom-at t) build-atom.Post
-build-atom-returns-2 t c = (λ n h. number-ok (c .before .before .before .before .before .before .before .before .before .before .before .before .before .before .before .before .before .before .before .args .text .now) (c .before .before .before .before .before .before .before .before .before .before .before .before .before .before .k .given .0 .0) (c .before .before .before .before .before .before .before .before .before .before .before .before .before .before .before .before .before .before .before .args .v) (out (c .before .before .before .before .before .before .before .before .before .before .before .before .before .before .before .before .before .before .before .args .ents .now) (c .before .before .before .before .before .before .before .before .before .before .before .before .before .before .before .before .before .before .before .args .labs .now) (c .before .before .before .before .before .before .before .before .before .before .before .before .before .before .before .before .before .before .before .args .st)) _ _ (c .before .before .before .before .before .before .before .before .before .before .before .before .value-at .result) (c .before .before .before .before .before .before .before .before .before .before .before .number-end .result) (c .before .before .before .before .before .before .before .before .before .before .before .number-end .ensures) (c .before .before .before .before .before .before .before .before .before .before .before .before .value-at .ensures) (c .before .before .before .before .before .put-row .ensures) (c .before .before .before .before .before .before .before .before .before .put .ensures) (c .before .before .e .given .0 .0) (c .before .before .e .given .1) (c .if1 .taken) ∙ at-number (c .before .before .before .before .before .before .before .before .before .before .before .before .before .before .before .before .before .before .before .args .text .now) (c .before .before .before .before .before .before .before .before .before .before .before .before .before .before .before .before .before .before .before .args .p) (c .before .before .before .before .before .before .before .before .before .before .before .before .before .before .before .before .before .before .before .args .depth) (c .before .before .before .before .before .before .before .before .before .before .before .before .before .before .before .before .before .before .before .args .v) (out (c .before .before .before .before .before .before .before .before .before .before .before .before .before .before .before .before .before .before .before .args .ents .now) (c .before .before .before .before .before .before .before .before .before .before .before .before .before .before .before .before .before .before .before .args .labs .now) (c .before .before .before .before .before .before .before .before .before .before .before .before .before .before .before .before .before .before .before .args .st)) (c .before .before .before .before .before .before .before .before .before .before .before .before .before .before .k .given .0 .0) (sym (c .before .before .before .before .before .before .before .before .before .before .before .before .before .before .before .before .kind-at .ensures) ∙ c .before .before .before .before .before .before .before .before .before .before .before .before .before .before .k .given .1) n h, λ e. subst (Within (c .before .before .before .before .before .before .before .before .before .before .before .before .before .before .before .before .before .before .before .args .st .at)) (sym (c .before .before .before .before .before .before .before .before .before .before .before .number-end .ensures) ∙ c .before .before .e .given .1) (number-within _ _ _))
+build-atom-returns-2 t c =
+    let a = c .before .before .before .before .before .before .before .before .before .before .before .before .before .before .before .before .before .before .before .args in
+    let kind = c .before .before .before .before .before .before .before .before .before .before .before .before .before .before .before .before .kind-at in
+    let digit = c .before .before .before .before .before .before .before .before .before .before .before .before .before .before .k in
+    let value = c .before .before .before .before .before .before .before .before .before .before .before .before .value-at in
+    let end = c .before .before .before .before .before .before .before .before .before .before .before .number-end in
+    let put = c .before .before .before .before .before .before .before .before .before .put in
+    let put-row = c .before .before .before .before .before .put-row in
+    let ends = c .before .before .e in (
+      λ n h. number-ok (a .text .now) (digit .given .0 .0) (a .v) (out (a .ents .now) (a .labs .now) (a .st)) _ _ (value .result)
+          (end .result) (end .ensures) (value .ensures) (put-row .ensures) (put .ensures) (ends .given .0 .0) (ends .given .1)
+          (c .if1 .taken) ∙ at-number (a .text .now) (a .p) (a .depth) (a .v) (out (a .ents .now) (a .labs .now) (a .st))
+          (digit .given .0 .0) (sym (kind .ensures) ∙ digit .given .1) n h,
+      λ e. subst (Within (a .st .at)) (sym (end .ensures) ∙ ends .given .1) (number-within _ _ _),
+    )
 
 build-atom-same-length-3 : (t : ℕ) → build-atom-lts.Need-same-length-3 (build-atom-claims t) (build-atom-at t) build-atom.Post
 build-atom-same-length-3 t c = search needs
@@ -161,7 +191,21 @@ build-atom-same-length-4 : (t : ℕ) → build-atom-lts.Need-same-length-4 (buil
 build-atom-same-length-4 t c = search needs
 
 build-atom-returns-3 : (t : ℕ) → build-atom-lts.Need-returns-3 (build-atom-claims t) (build-atom-at t) build-atom.Post
-build-atom-returns-3 t c = (λ n h. number-full (c .before .before .before .before .before .before .before .before .before .before .before .before .before .before .before .before .before .before .before .args .text .now) (c .before .before .before .before .before .before .before .before .before .before .before .before .before .before .k .given .0 .0) (c .before .before .before .before .before .before .before .before .before .before .before .before .before .before .before .before .before .before .before .args .v) (out (c .before .before .before .before .before .before .before .before .before .before .before .before .before .before .before .before .before .before .before .args .ents .now) (c .before .before .before .before .before .before .before .before .before .before .before .before .before .before .before .before .before .before .before .args .labs .now) (c .before .before .before .before .before .before .before .before .before .before .before .before .before .before .before .before .before .before .before .args .st)) _ _ (c .before .before .before .before .before .before .before .before .before .before .before .before .value-at .result) (c .before .before .before .before .before .before .before .before .before .before .before .number-end .result) (c .before .before .before .before .before .before .before .before .before .before .before .number-end .ensures) (c .before .before .before .before .before .before .before .before .before .before .before .before .value-at .ensures) (c .before .before .before .before .before .put-row .ensures) (c .before .before .before .before .before .before .before .before .before .put .ensures) (c .before .before .e .given .0 .0) (c .before .before .e .given .1) (c .if1 .left) ∙ at-number (c .before .before .before .before .before .before .before .before .before .before .before .before .before .before .before .before .before .before .before .args .text .now) (c .before .before .before .before .before .before .before .before .before .before .before .before .before .before .before .before .before .before .before .args .p) (c .before .before .before .before .before .before .before .before .before .before .before .before .before .before .before .before .before .before .before .args .depth) (c .before .before .before .before .before .before .before .before .before .before .before .before .before .before .before .before .before .before .before .args .v) (out (c .before .before .before .before .before .before .before .before .before .before .before .before .before .before .before .before .before .before .before .args .ents .now) (c .before .before .before .before .before .before .before .before .before .before .before .before .before .before .before .before .before .before .before .args .labs .now) (c .before .before .before .before .before .before .before .before .before .before .before .before .before .before .before .before .before .before .before .args .st)) (c .before .before .before .before .before .before .before .before .before .before .before .before .before .before .k .given .0 .0) (sym (c .before .before .before .before .before .before .before .before .before .before .before .before .before .before .before .before .kind-at .ensures) ∙ c .before .before .before .before .before .before .before .before .before .before .before .before .before .before .k .given .1) n h, never)
+build-atom-returns-3 t c =
+    let a = c .before .before .before .before .before .before .before .before .before .before .before .before .before .before .before .before .before .before .before .args in
+    let kind = c .before .before .before .before .before .before .before .before .before .before .before .before .before .before .before .before .kind-at in
+    let digit = c .before .before .before .before .before .before .before .before .before .before .before .before .before .before .k in
+    let value = c .before .before .before .before .before .before .before .before .before .before .before .before .value-at in
+    let end = c .before .before .before .before .before .before .before .before .before .before .before .number-end in
+    let put = c .before .before .before .before .before .before .before .before .before .put in
+    let put-row = c .before .before .before .before .before .put-row in
+    let ends = c .before .before .e in (
+      λ n h. number-full (a .text .now) (digit .given .0 .0) (a .v) (out (a .ents .now) (a .labs .now) (a .st)) _ _ (value .result)
+          (end .result) (end .ensures) (value .ensures) (put-row .ensures) (put .ensures) (ends .given .0 .0) (ends .given .1)
+          (c .if1 .left) ∙ at-number (a .text .now) (a .p) (a .depth) (a .v) (out (a .ents .now) (a .labs .now) (a .st))
+          (digit .given .0 .0) (sym (kind .ensures) ∙ digit .given .1) n h,
+      never,
+    )
 
 build-atom-same-length-5 : (t : ℕ) → build-atom-lts.Need-same-length-5 (build-atom-claims t) (build-atom-at t) build-atom.Post
 build-atom-same-length-5 t c = search needs
@@ -170,7 +214,19 @@ build-atom-same-length-6 : (t : ℕ) → build-atom-lts.Need-same-length-6 (buil
 build-atom-same-length-6 t c = search needs
 
 build-atom-returns-4 : (t : ℕ) → build-atom-lts.Need-returns-4 (build-atom-claims t) (build-atom-at t) build-atom.Post
-build-atom-returns-4 t c = (λ n h. number-bad (c .before .before .before .before .before .before .before .before .before .before .before .before .before .before .before .before .before .args .text .now) (c .before .before .before .before .before .before .before .before .before .before .before .before .k .given .0 .0) (c .before .before .before .before .before .before .before .before .before .before .before .before .before .before .before .before .before .args .v) (out (c .before .before .before .before .before .before .before .before .before .before .before .before .before .before .before .before .before .args .ents .now) (c .before .before .before .before .before .before .before .before .before .before .before .before .before .before .before .before .before .args .labs .now) (c .before .before .before .before .before .before .before .before .before .before .before .before .before .before .before .before .before .args .st)) _ _ (c .before .before .before .before .before .before .before .before .before .before .value-at .result) (c .before .before .before .before .before .before .before .before .before .number-end .result) (c .before .before .before .before .before .before .before .before .before .number-end .ensures) (c .before .before .before .before .before .before .before .before .before .before .value-at .ensures) (c .before .before .before .put-row .ensures) (c .before .before .before .before .before .before .before .put .ensures) (c .enum-told .given .1) ∙ at-number (c .before .before .before .before .before .before .before .before .before .before .before .before .before .before .before .before .before .args .text .now) (c .before .before .before .before .before .before .before .before .before .before .before .before .before .before .before .before .before .args .p) (c .before .before .before .before .before .before .before .before .before .before .before .before .before .before .before .before .before .args .depth) (c .before .before .before .before .before .before .before .before .before .before .before .before .before .before .before .before .before .args .v) (out (c .before .before .before .before .before .before .before .before .before .before .before .before .before .before .before .before .before .args .ents .now) (c .before .before .before .before .before .before .before .before .before .before .before .before .before .before .before .before .before .args .labs .now) (c .before .before .before .before .before .before .before .before .before .before .before .before .before .before .before .before .before .args .st)) (c .before .before .before .before .before .before .before .before .before .before .before .before .k .given .0 .0) (sym (c .before .before .before .before .before .before .before .before .before .before .before .before .before .before .kind-at .ensures) ∙ c .before .before .before .before .before .before .before .before .before .before .before .before .k .given .1) n h, never)
+build-atom-returns-4 t c =
+    let a = c .before .before .before .before .before .before .before .before .before .before .before .before .before .before .before .before .before .args in
+    let kind = c .before .before .before .before .before .before .before .before .before .before .before .before .before .before .kind-at in
+    let digit = c .before .before .before .before .before .before .before .before .before .before .before .before .k in
+    let value = c .before .before .before .before .before .before .before .before .before .before .value-at in
+    let end = c .before .before .before .before .before .before .before .before .before .number-end in
+    let put = c .before .before .before .before .before .before .before .put in (
+      λ n h. number-bad (a .text .now) (digit .given .0 .0) (a .v) (out (a .ents .now) (a .labs .now) (a .st)) _ _ (value .result)
+          (end .result) (end .ensures) (value .ensures) (c .before .before .before .put-row .ensures) (put .ensures)
+          (c .enum-told .given .1) ∙ at-number (a .text .now) (a .p) (a .depth) (a .v) (out (a .ents .now) (a .labs .now) (a .st))
+          (digit .given .0 .0) (sym (kind .ensures) ∙ digit .given .1) n h,
+      never,
+    )
 
 build-atom-same-length-7 : (t : ℕ) → build-atom-lts.Need-same-length-7 (build-atom-claims t) (build-atom-at t) build-atom.Post
 build-atom-same-length-7 t c = search needs
@@ -179,7 +235,19 @@ build-atom-same-length-8 : (t : ℕ) → build-atom-lts.Need-same-length-8 (buil
 build-atom-same-length-8 t c = search needs
 
 build-atom-returns-5 : (t : ℕ) → build-atom-lts.Need-returns-5 (build-atom-claims t) (build-atom-at t) build-atom.Post
-build-atom-returns-5 t c = let k = sym (c .before .before .before .before .before .before .before .before .before .before .before .before .before .kind-at .ensures) ∙ c .before .before .before .before .before .before .before .before .before .before .before .enum-told2 .given .1 in let l = seen-as _ _ _ _ (c .before .before .before .before .before .before .before .before .before .before .before .before .before .kind-at .ensures) (c .before .before .before .before .before .before .before .before .before .before .before .enum-told2 .given .1) tt in (at-group (c .before .before .before .before .before .before .before .before .before .before .before .before .before .before .before .before .args .text .now) (c .before .before .before .before .before .before .before .before .before .before .before .before .before .before .before .before .args .p) (c .before .before .before .before .before .before .before .before .before .before .before .before .before .before .before .before .args .depth) (c .before .before .before .before .before .before .before .before .before .before .before .before .before .before .before .before .args .v) (out (c .before .before .before .before .before .before .before .before .before .before .before .before .before .before .before .before .args .ents .now) (c .before .before .before .before .before .before .before .before .before .before .before .before .before .before .before .before .args .labs .now) (c .before .before .before .before .before .before .before .before .before .before .before .before .before .before .before .before .args .st)) k l (c .before .before .before .before .before .before .before .before .before .before .if2 .left) _ (c .before .before .before .before .before .before .before .build-rule .ensures .0) _ (rw (c .before .before .before .if3 .taken, ← c .before .before .kind-at2 .ensures, c .enum-told3 .given .1)), λ e. let w = c .before .before .before .before .before .before .before .build-rule .ensures .1 (c .before .before .before .if3 .taken) in omega arith)
+build-atom-returns-5 t c =
+    let a = c .before .before .before .before .before .before .before .before .before .before .before .before .before .before .before .before .args in
+    let kind = c .before .before .before .before .before .before .before .before .before .before .before .before .before .kind-at in
+    let told = c .before .before .before .before .before .before .before .before .before .before .before .enum-told2 in
+    let if2 = c .before .before .before .before .before .before .before .before .before .before .if2 in
+    let inner = c .before .before .before .before .before .before .before .build-rule in
+    let if3 = c .before .before .before .if3 in
+    let k = sym (kind .ensures) ∙ told .given .1 in
+    let l = seen-as _ _ _ _ (kind .ensures) (told .given .1) tt in (
+      at-group (a .text .now) (a .p) (a .depth) (a .v) (out (a .ents .now) (a .labs .now) (a .st)) k l (if2 .left) _ (inner .ensures .0)
+          _ (rw (if3 .taken, ← c .before .before .kind-at2 .ensures, c .enum-told3 .given .1)),
+      λ e. let w = inner .ensures .1 (if3 .taken) in omega arith,
+    )
 
 build-atom-same-length-9 : (t : ℕ) → build-atom-lts.Need-same-length-9 (build-atom-claims t) (build-atom-at t) build-atom.Post
 build-atom-same-length-9 t c = search needs
@@ -188,7 +256,18 @@ build-atom-same-length-10 : (t : ℕ) → build-atom-lts.Need-same-length-10 (bu
 build-atom-same-length-10 t c = search needs
 
 build-atom-returns-6 : (t : ℕ) → build-atom-lts.Need-returns-6 (build-atom-claims t) (build-atom-at t) build-atom.Post
-build-atom-returns-6 t c = let k = sym (c .before .before .before .before .before .before .before .before .before .before .before .before .kind-at .ensures) ∙ c .before .before .before .before .before .before .before .before .before .before .enum-told2 .given .1 in let l = seen-as _ _ _ _ (c .before .before .before .before .before .before .before .before .before .before .before .before .kind-at .ensures) (c .before .before .before .before .before .before .before .before .before .before .enum-told2 .given .1) tt in (at-group (c .before .before .before .before .before .before .before .before .before .before .before .before .before .before .before .args .text .now) (c .before .before .before .before .before .before .before .before .before .before .before .before .before .before .before .args .p) (c .before .before .before .before .before .before .before .before .before .before .before .before .before .before .before .args .depth) (c .before .before .before .before .before .before .before .before .before .before .before .before .before .before .before .args .v) (out (c .before .before .before .before .before .before .before .before .before .before .before .before .before .before .before .args .ents .now) (c .before .before .before .before .before .before .before .before .before .before .before .before .before .before .before .args .labs .now) (c .before .before .before .before .before .before .before .before .before .before .before .before .before .before .before .args .st)) k l (c .before .before .before .before .before .before .before .before .before .if2 .left) _ (c .before .before .before .before .before .before .build-rule .ensures .0) _ (rw (c .before .before .if3 .taken, ← c .before .kind-at2 .ensures, not-close (c .before .kind-at2 .result) (c .match3 .keys2))), never)
+build-atom-returns-6 t c =
+    let a = c .before .before .before .before .before .before .before .before .before .before .before .before .before .before .before .args in
+    let kind = c .before .before .before .before .before .before .before .before .before .before .before .before .kind-at in
+    let told = c .before .before .before .before .before .before .before .before .before .before .enum-told2 in
+    let if2 = c .before .before .before .before .before .before .before .before .before .if2 in
+    let inner = c .before .before .before .before .before .before .build-rule in
+    let k = sym (kind .ensures) ∙ told .given .1 in
+    let l = seen-as _ _ _ _ (kind .ensures) (told .given .1) tt in (
+      at-group (a .text .now) (a .p) (a .depth) (a .v) (out (a .ents .now) (a .labs .now) (a .st)) k l (if2 .left) _ (inner .ensures .0)
+          _ (rw (c .before .before .if3 .taken, ← c .before .kind-at2 .ensures, not-close (c .before .kind-at2 .result) (c .match3 .keys2))),
+      never,
+    )
 
 build-atom-same-length-11 : (t : ℕ) → build-atom-lts.Need-same-length-11 (build-atom-claims t) (build-atom-at t) build-atom.Post
 build-atom-same-length-11 t c = search needs
@@ -197,10 +276,25 @@ build-atom-same-length-12 : (t : ℕ) → build-atom-lts.Need-same-length-12 (bu
 build-atom-same-length-12 t c = search needs
 
 build-atom-returns-7 : (t : ℕ) → build-atom-lts.Need-returns-7 (build-atom-claims t) (build-atom-at t) build-atom.Post
-build-atom-returns-7 t c = let k = sym (c .before .before .before .before .before .before .before .before .before .before .kind-at .ensures) ∙ c .before .before .before .before .before .before .before .before .enum-told2 .given .1 in let l = seen-as _ _ _ _ (c .before .before .before .before .before .before .before .before .before .before .kind-at .ensures) (c .before .before .before .before .before .before .before .before .enum-told2 .given .1) tt in (at-group (c .before .before .before .before .before .before .before .before .before .before .before .before .before .args .text .now) (c .before .before .before .before .before .before .before .before .before .before .before .before .before .args .p) (c .before .before .before .before .before .before .before .before .before .before .before .before .before .args .depth) (c .before .before .before .before .before .before .before .before .before .before .before .before .before .args .v) (out (c .before .before .before .before .before .before .before .before .before .before .before .before .before .args .ents .now) (c .before .before .before .before .before .before .before .before .before .before .before .before .before .args .labs .now) (c .before .before .before .before .before .before .before .before .before .before .before .before .before .args .st)) k l (c .before .before .before .before .before .before .before .if2 .left) _ (c .before .before .before .before .build-rule .ensures .0) _ (rw (c .if3 .left)), λ e. never (sym (c .if3 .left) ∙ e))
+build-atom-returns-7 t c =
+    let a = c .before .before .before .before .before .before .before .before .before .before .before .before .before .args in
+    let kind = c .before .before .before .before .before .before .before .before .before .before .kind-at in
+    let told = c .before .before .before .before .before .before .before .before .enum-told2 in
+    let if2 = c .before .before .before .before .before .before .before .if2 in
+    let k = sym (kind .ensures) ∙ told .given .1 in
+    let l = seen-as _ _ _ _ (kind .ensures) (told .given .1) tt in (
+      at-group (a .text .now) (a .p) (a .depth) (a .v) (out (a .ents .now) (a .labs .now) (a .st)) k l (if2 .left) _
+          (c .before .before .before .before .build-rule .ensures .0) _ (rw (c .if3 .left)),
+      λ e. never (sym (c .if3 .left) ∙ e),
+    )
 
 build-atom-returns-8 : (t : ℕ) → build-atom-lts.Need-returns-8 (build-atom-claims t) (build-atom-at t) build-atom.Post
-build-atom-returns-8 t c = (at-other (c .before .before .before .before .args .text .now) (c .before .before .before .before .args .p) (c .before .before .before .before .args .depth) (c .before .before .before .before .args .v) (out (c .before .before .before .before .args .ents .now) (c .before .before .before .before .args .labs .now) (c .before .before .before .before .args .st)) (rw (← c .before .kind-at .ensures) (c .match .keys3)), never)
+build-atom-returns-8 t c =
+    let a = c .before .before .before .before .args in (
+      at-other (a .text .now) (a .p) (a .depth) (a .v) (out (a .ents .now) (a .labs .now) (a .st))
+          (rw (← c .before .kind-at .ensures) (c .match .keys3)),
+      never,
+    )
 
 build-rule-build-term-requires : (t : ℕ) → build-rule-lts.Need-build-term-requires (build-rule-claims t) (build-rule-at t) build-rule.Post
 build-rule-build-term-requires t c κs = search needs
@@ -215,7 +309,14 @@ build-rule-add-t20 : (t : ℕ) → build-rule-lts.Need-add-t20 (build-rule-claim
 build-rule-add-t20 t c = let l = seen-as _ _ _ _ (c .before .before .kind-at .ensures) (c .enum-told .given .1) tt in omega arith
 
 build-rule-build-rule-requires : (t : ℕ) → build-rule-lts.Need-build-rule-requires (build-rule-claims t) (build-rule-at t) build-rule.Post
-build-rule-build-rule-requires t c κs = let l = seen-as _ _ _ _ (c .before .before .before .before .kind-at .ensures) (c .before .before .enum-told .given .1) tt in let w = c .before .before .before .before .before .before .before .before .before .build-term .ensures .1 (c .before .before .before .before .before .if1 .taken) in (omega arith, c .before .before .before .before .before .before .before .before .before .before .before .before .before .before .pre .1)
+build-rule-build-rule-requires t c κs =
+    let first = c .before .before .before .before .before .before .before .before .before .build-term in
+    let if1 = c .before .before .before .before .before .if1 in
+    let l = seen-as _ _ _ _ (c .before .before .before .before .kind-at .ensures) (c .before .before .enum-told .given .1) tt in
+    let w = first .ensures .1 (if1 .taken) in (
+      omega arith,
+      c .before .before .before .before .before .before .before .before .before .before .before .before .before .before .pre .1,
+    )
 
 build-rule-same-length : (t : ℕ) → build-rule-lts.Need-same-length (build-rule-claims t) (build-rule-at t) build-rule.Post
 build-rule-same-length t c = search needs
@@ -224,7 +325,19 @@ build-rule-same-length-2 : (t : ℕ) → build-rule-lts.Need-same-length-2 (buil
 build-rule-same-length-2 t c = search needs
 
 build-rule-returns : (t : ℕ) → build-rule-lts.Need-returns (build-rule-claims t) (build-rule-at t) build-rule.Post
-build-rule-returns t c = let l = seen-as _ _ _ _ (c .before .before .before .before .before .before .before .before .kind-at .ensures) (c .before .before .before .before .before .before .enum-told .given .1) tt in let w = c .before .before .before .before .before .before .before .before .before .before .before .before .before .build-term .ensures .1 (c .before .before .before .before .before .before .before .before .before .if1 .taken) in (rule-by (c .before .before .before .before .before .before .before .before .before .before .before .before .before .before .before .before .before .before .args .text .now) (c .before .before .before .before .before .before .before .before .before .before .before .before .before .before .before .before .before .before .args .p) (c .before .before .before .before .before .before .before .before .before .before .before .before .before .before .before .before .before .before .args .depth) (c .before .before .before .before .before .before .before .before .before .before .before .before .before .before .before .before .before .before .args .v) (out (c .before .before .before .before .before .before .before .before .before .before .before .before .before .before .before .before .before .before .args .ents .now) (c .before .before .before .before .before .before .before .before .before .before .before .before .before .before .before .before .before .before .args .labs .now) (c .before .before .before .before .before .before .before .before .before .before .before .before .before .before .before .before .before .before .args .st)) _ (c .before .before .before .before .before .before .before .before .before .before .before .before .before .build-term .ensures .0) _ (λ n h. rw (c .before .before .before .before .before .before .before .before .before .if1 .taken, ← c .before .before .before .before .before .before .before .before .kind-at .ensures, c .before .before .before .before .before .before .enum-told .given .1) (sym (c .before .before .before .build-rule .ensures .0 n (omega arith)))), λ e. let y = c .before .before .before .build-rule .ensures .1 e in omega arith)
+build-rule-returns t c =
+    let a = c .before .before .before .before .before .before .before .before .before .before .before .before .before .before .before .before .before .before .args in
+    let first = c .before .before .before .before .before .before .before .before .before .before .before .before .before .build-term in
+    let if1 = c .before .before .before .before .before .before .before .before .before .if1 in
+    let kind = c .before .before .before .before .before .before .before .before .kind-at in
+    let told = c .before .before .before .before .before .before .enum-told in
+    let inner = c .before .before .before .build-rule in
+    let l = seen-as _ _ _ _ (kind .ensures) (told .given .1) tt in
+    let w = first .ensures .1 (if1 .taken) in (
+      rule-by (a .text .now) (a .p) (a .depth) (a .v) (out (a .ents .now) (a .labs .now) (a .st)) _ (first .ensures .0) _
+          (λ n h. rw (if1 .taken, ← kind .ensures, told .given .1) (sym (inner .ensures .0 n (omega arith)))),
+      λ e. let y = inner .ensures .1 e in omega arith,
+    )
 
 build-rule-same-length-3 : (t : ℕ) → build-rule-lts.Need-same-length-3 (build-rule-claims t) (build-rule-at t) build-rule.Post
 build-rule-same-length-3 t c = search needs
@@ -233,7 +346,13 @@ build-rule-same-length-4 : (t : ℕ) → build-rule-lts.Need-same-length-4 (buil
 build-rule-same-length-4 t c = search needs
 
 build-rule-returns-2 : (t : ℕ) → build-rule-lts.Need-returns-2 (build-rule-claims t) (build-rule-at t) build-rule.Post
-build-rule-returns-2 t c = (rule-by (c .before .before .before .before .before .before .before .before .before .before .before .args .text .now) (c .before .before .before .before .before .before .before .before .before .before .before .args .p) (c .before .before .before .before .before .before .before .before .before .before .before .args .depth) (c .before .before .before .before .before .before .before .before .before .before .before .args .v) (out (c .before .before .before .before .before .before .before .before .before .before .before .args .ents .now) (c .before .before .before .before .before .before .before .before .before .before .before .args .labs .now) (c .before .before .before .before .before .before .before .before .before .before .before .args .st)) _ (c .before .before .before .before .before .before .build-term .ensures .0) _ (λ n h. rw (c .before .before .if1 .taken, ← c .before .kind-at .ensures, not-or (c .before .kind-at .result) (c .match .keys2))), c .before .before .before .before .before .before .build-term .ensures .1)
+build-rule-returns-2 t c =
+    let a = c .before .before .before .before .before .before .before .before .before .before .before .args in
+    let first = c .before .before .before .before .before .before .build-term in (
+      rule-by (a .text .now) (a .p) (a .depth) (a .v) (out (a .ents .now) (a .labs .now) (a .st)) _ (first .ensures .0) _
+          (λ n h. rw (c .before .before .if1 .taken, ← c .before .kind-at .ensures, not-or (c .before .kind-at .result) (c .match .keys2))),
+      first .ensures .1,
+    )
 
 build-rule-same-length-5 : (t : ℕ) → build-rule-lts.Need-same-length-5 (build-rule-claims t) (build-rule-at t) build-rule.Post
 build-rule-same-length-5 t c = search needs
@@ -242,7 +361,13 @@ build-rule-same-length-6 : (t : ℕ) → build-rule-lts.Need-same-length-6 (buil
 build-rule-same-length-6 t c = search needs
 
 build-rule-returns-3 : (t : ℕ) → build-rule-lts.Need-returns-3 (build-rule-claims t) (build-rule-at t) build-rule.Post
-build-rule-returns-3 t c = (rule-by (c .before .before .before .before .before .before .before .before .before .args .text .now) (c .before .before .before .before .before .before .before .before .before .args .p) (c .before .before .before .before .before .before .before .before .before .args .depth) (c .before .before .before .before .before .before .before .before .before .args .v) (out (c .before .before .before .before .before .before .before .before .before .args .ents .now) (c .before .before .before .before .before .before .before .before .before .args .labs .now) (c .before .before .before .before .before .before .before .before .before .args .st)) _ (c .before .before .before .before .build-term .ensures .0) _ (λ n h. rw (c .if1 .left)), c .before .before .before .before .build-term .ensures .1)
+build-rule-returns-3 t c =
+    let a = c .before .before .before .before .before .before .before .before .before .args in
+    let first = c .before .before .before .before .build-term in (
+      rule-by (a .text .now) (a .p) (a .depth) (a .v) (out (a .ents .now) (a .labs .now) (a .st)) _ (first .ensures .0) _
+          (λ n h. rw (c .if1 .left)),
+      first .ensures .1,
+    )
 
 abbrev build-term-Inv-loop : build-term-lts.InvT-loop
 build-term-Inv-loop s depth p ents₀ labs₀ start base m w at₀ row₀ col₀ i₀ ents labs at row col i =
@@ -258,10 +383,18 @@ build-term-atoms-requires : (t : ℕ) → build-term-lts.Need-atoms-requires (bu
 build-term-atoms-requires t c κs = search needs
 
 build-term-returns : (t : ℕ) → build-term-lts.Need-returns (build-term-claims t) (build-term-at t) build-term.Post build-term-Inv-loop build-term-μ-loop
-build-term-returns t c = (term-wide (c .before .before .before .before .args .text .now) (c .before .before .before .before .args .p) (c .before .before .before .before .args .depth) (c .before .before .before .before .args .v) (out (c .before .before .before .before .args .ents .now) (c .before .before .before .before .args .labs .now) (c .before .before .before .before .args .st)) (c .if1 .taken), never)
+build-term-returns t c =
+    let a = c .before .before .before .before .args in
+    (term-wide (a .text .now) (a .p) (a .depth) (a .v) (out (a .ents .now) (a .labs .now) (a .st)) (c .if1 .taken), never)
 
 build-term-returns-2 : (t : ℕ) → build-term-lts.Need-returns-2 (build-term-claims t) (build-term-at t) build-term.Post build-term-Inv-loop build-term-μ-loop
-build-term-returns-2 t c = (term-long (c .before .before .before .before .before .args .text .now) (c .before .before .before .before .before .args .p) (c .before .before .before .before .before .args .depth) (c .before .before .before .before .before .args .v) (out (c .before .before .before .before .before .args .ents .now) (c .before .before .before .before .before .args .labs .now) (c .before .before .before .before .before .args .st)) (c .before .before .atoms .result) (c .before .before .atoms .ensures) (c .before .if1 .left) (c .if2 .taken), never)
+build-term-returns-2 t c =
+    let a = c .before .before .before .before .before .args in
+    let ands = c .before .before .atoms in (
+      term-long (a .text .now) (a .p) (a .depth) (a .v) (out (a .ents .now) (a .labs .now) (a .st)) (ands .result) (ands .ensures)
+          (c .before .if1 .left) (c .if2 .taken),
+      never,
+    )
 
 build-term-last-requires : (t : ℕ) → build-term-lts.Need-last-requires (build-term-claims t) (build-term-at t) build-term.Post build-term-Inv-loop build-term-μ-loop
 build-term-last-requires t c κs = search needs
@@ -297,7 +430,31 @@ build-term-same-length-2 : (t : ℕ) → build-term-lts.Need-same-length-2 (buil
 build-term-same-length-2 t c = search needs
 
 build-term-returns-3 : (t : ℕ) → build-term-lts.Need-returns-3 (build-term-claims t) (build-term-at t) build-term.Post build-term-Inv-loop build-term-μ-loop
-build-term-returns-3 t c = (term-by (c .before .before .before .before .before .before .before .before .before .before .before .before .before .before .before .before .before .before .args .text .now) (c .before .before .before .before .before .before .before .before .before .before .before .before .before .before .before .before .before .before .args .p) (c .before .before .before .before .before .before .before .before .before .before .before .before .before .before .before .before .before .before .args .depth) (c .before .before .before .before .before .before .before .before .before .before .before .before .before .before .before .before .before .before .args .v) (out (c .before .before .before .before .before .before .before .before .before .before .before .before .before .before .before .before .before .before .args .ents .now) (c .before .before .before .before .before .before .before .before .before .before .before .before .before .before .before .before .before .before .args .labs .now) (c .before .before .before .before .before .before .before .before .before .before .before .before .before .before .before .before .before .before .args .st)) (c .before .before .before .before .before .before .before .before .before .before .before .before .before .before .before .atoms .result) (c .before .before .before .before .before .before .before .before .before .before .before .before .before .before .before .atoms .ensures) (omega arith) (omega arith) _ (λ n h. rw (← c .before .before .before .before .before .before .before .before .before .before .before .loop .inv .4 n h, many-stop (λ u x. atomBuilt n (c .before .before .before .before .before .before .before .before .before .before .before .before .before .before .before .before .before .before .args .text .now) (c .before .before .before .before .before .before .before .before .before .before .before .before .before .before .before .before .before .before .args .p) (c .before .before .before .before .before .before .before .before .before .before .before .before .before .before .before .before .before .before .args .depth) u x) (c .before .before .before .before .before .before .before .before .before .before .before .before .before .before .before .before .before .before .args .p) (c .before .before .before .before .before .before .before .before .before .before .before .before .before .before .before .before .before .before .args .text .now) ((c .before .before .before .before .before .before .before .before .before .before .before .before .before .before .before .before .before .before .args .st .col) + c .before .before .before .before .before .before .before .before .before .before .before .loop .i) (standing (c .before .before .before .before .before .before .before .before .before .before .before .loop .ents) (c .before .before .before .before .before .before .before .before .before .before .before .loop .labs) (c .before .before .before .before .before .before .before .before .before .before .before .loop .at) (c .before .before .before .before .before .before .before .before .before .before .before .loop .row) (c .before .before .before .before .before .before .before .before .before .before .before .loop .col)) _ (c .before .before .before .before .before .before .before .before .before .before .before .before .before .before .before .atoms .result - c .before .before .before .before .before .before .before .before .before .before .before .loop .i) (c .before .before .before .before .before .before .before .before .before .before .before .before .before .before .before .atoms .result - (c .before .before .before .before .before .before .before .before .before .before .before .loop .i + 1)) (omega (arith, c .before .before .before .before .before .before .before .before .before .before .loop-test .taken)) (c .before .before .before .before .before .before .build-atom .ensures .0 n (omega arith) ∙ ap (λ (u : List ℕ). atomBuilt n (c .before .before .before .before .before .before .before .before .before .before .before .before .before .before .before .before .before .before .args .text .now) (c .before .before .before .before .before .before .before .before .before .before .before .before .before .before .before .before .before .before .args .p) (c .before .before .before .before .before .before .before .before .before .before .before .before .before .before .before .before .before .before .args .depth) u (standing (c .before .before .before .before .before .before .before .before .before .before .before .loop .ents) (c .before .before .before .before .before .before .before .before .before .before .before .loop .labs) (c .before .before .before .before .before .before .before .before .before .before .before .loop .at) (c .before .before .before .before .before .before .before .before .before .before .before .loop .row) (c .before .before .before .before .before .before .before .before .before .before .before .loop .col))) (c .before .before .before .before .before .before .before .before .before .unit .ensures (c .before .before .before .before .before .before .before .before .before .before .before .before .before .before .before .before .before .before .args .p))) (c .before .before .if3 .taken) (ap isAnd (sym (c .before .kind-at .ensures)) ∙ not-and (c .before .kind-at .result) (c .match .keys2)))), never)
+build-term-returns-3 t c =
+    let a = c .before .before .before .before .before .before .before .before .before .before .before .before .before .before .before .before .before .before .args in
+    let ands = c .before .before .before .before .before .before .before .before .before .before .before .before .before .before .before .atoms in
+    let if1 = c .before .before .before .before .before .before .before .before .before .before .before .before .before .before .if1 in
+    let if2 = c .before .before .before .before .before .before .before .before .before .before .before .before .before .if2 in
+    let now = c .before .before .before .before .before .before .before .before .before .before .before .loop in
+    let test = c .before .before .before .before .before .before .before .before .before .before .loop-test in
+    let own = c .before .before .before .before .before .before .before .before .before .unit in
+    let built = c .before .before .before .before .before .before .build-atom in (
+      term-by (a .text .now) (a .p) (a .depth) (a .v) (out (a .ents .now) (a .labs .now) (a .st)) (ands .result) (ands .ensures)
+          (if1 .left) (if2 .left) _
+          (λ n h. rw (
+            ← now .inv .4 n h,
+            many-stop (λ u x. atomBuilt n (a .text .now) (a .p) (a .depth) u x) (a .p) (a .text .now) ((a .st .col) + now .i)
+                (standing (now .ents) (now .labs) (now .at) (now .row) (now .col)) _ (ands .result - now .i) (ands .result - (now .i + 1))
+                (omega (arith, test .taken))
+                (built .ensures .0 n (omega arith) ∙ ap
+                (λ (u : List ℕ). atomBuilt n (a .text .now) (a .p) (a .depth) u
+                (standing (now .ents) (now .labs) (now .at) (now .row) (now .col)))
+                (own .ensures (a .p)))
+                (c .before .before .if3 .taken)
+                (ap isAnd (sym (c .before .kind-at .ensures)) ∙ not-and (c .before .kind-at .result) (c .match .keys2)),
+          )),
+      never,
+    )
 
 build-term-same-length-3 : (t : ℕ) → build-term-lts.Need-same-length-3 (build-term-claims t) (build-term-at t) build-term.Post build-term-Inv-loop build-term-μ-loop
 build-term-same-length-3 t c = search needs
@@ -306,16 +463,66 @@ build-term-same-length-4 : (t : ℕ) → build-term-lts.Need-same-length-4 (buil
 build-term-same-length-4 t c = search needs
 
 build-term-returns-4 : (t : ℕ) → build-term-lts.Need-returns-4 (build-term-claims t) (build-term-at t) build-term.Post build-term-Inv-loop build-term-μ-loop
-build-term-returns-4 t c = (term-by (c .before .before .before .before .before .before .before .before .before .before .before .before .before .before .before .before .args .text .now) (c .before .before .before .before .before .before .before .before .before .before .before .before .before .before .before .before .args .p) (c .before .before .before .before .before .before .before .before .before .before .before .before .before .before .before .before .args .depth) (c .before .before .before .before .before .before .before .before .before .before .before .before .before .before .before .before .args .v) (out (c .before .before .before .before .before .before .before .before .before .before .before .before .before .before .before .before .args .ents .now) (c .before .before .before .before .before .before .before .before .before .before .before .before .before .before .before .before .args .labs .now) (c .before .before .before .before .before .before .before .before .before .before .before .before .before .before .before .before .args .st)) (c .before .before .before .before .before .before .before .before .before .before .before .before .before .atoms .result) (c .before .before .before .before .before .before .before .before .before .before .before .before .before .atoms .ensures) (omega arith) (omega arith) _ (λ n h. rw (← c .before .before .before .before .before .before .before .before .before .loop .inv .4 n h, many-fail (λ u x. atomBuilt n (c .before .before .before .before .before .before .before .before .before .before .before .before .before .before .before .before .args .text .now) (c .before .before .before .before .before .before .before .before .before .before .before .before .before .before .before .before .args .p) (c .before .before .before .before .before .before .before .before .before .before .before .before .before .before .before .before .args .depth) u x) (c .before .before .before .before .before .before .before .before .before .before .before .before .before .before .before .before .args .p) (c .before .before .before .before .before .before .before .before .before .before .before .before .before .before .before .before .args .text .now) ((c .before .before .before .before .before .before .before .before .before .before .before .before .before .before .before .before .args .st .col) + c .before .before .before .before .before .before .before .before .before .loop .i) (standing (c .before .before .before .before .before .before .before .before .before .loop .ents) (c .before .before .before .before .before .before .before .before .before .loop .labs) (c .before .before .before .before .before .before .before .before .before .loop .at) (c .before .before .before .before .before .before .before .before .before .loop .row) (c .before .before .before .before .before .before .before .before .before .loop .col)) _ (c .before .before .before .before .before .before .before .before .before .before .before .before .before .atoms .result - c .before .before .before .before .before .before .before .before .before .loop .i) (c .before .before .before .before .before .before .before .before .before .before .before .before .before .atoms .result - (c .before .before .before .before .before .before .before .before .before .loop .i + 1)) (omega (arith, c .before .before .before .before .before .before .before .before .loop-test .taken)) (c .before .before .before .before .build-atom .ensures .0 n (omega arith) ∙ ap (λ (u : List ℕ). atomBuilt n (c .before .before .before .before .before .before .before .before .before .before .before .before .before .before .before .before .args .text .now) (c .before .before .before .before .before .before .before .before .before .before .before .before .before .before .before .before .args .p) (c .before .before .before .before .before .before .before .before .before .before .before .before .before .before .before .before .args .depth) u (standing (c .before .before .before .before .before .before .before .before .before .loop .ents) (c .before .before .before .before .before .before .before .before .before .loop .labs) (c .before .before .before .before .before .before .before .before .before .loop .at) (c .before .before .before .before .before .before .before .before .before .loop .row) (c .before .before .before .before .before .before .before .before .before .loop .col))) (c .before .before .before .before .before .before .before .unit .ensures (c .before .before .before .before .before .before .before .before .before .before .before .before .before .before .before .before .args .p))) (c .if3 .left), c .if3 .left)), λ e. never (sym (c .if3 .left) ∙ e))
+build-term-returns-4 t c =
+    let a = c .before .before .before .before .before .before .before .before .before .before .before .before .before .before .before .before .args in
+    let ands = c .before .before .before .before .before .before .before .before .before .before .before .before .before .atoms in
+    let if1 = c .before .before .before .before .before .before .before .before .before .before .before .before .if1 in
+    let if2 = c .before .before .before .before .before .before .before .before .before .before .before .if2 in
+    let now = c .before .before .before .before .before .before .before .before .before .loop in
+    let test = c .before .before .before .before .before .before .before .before .loop-test in
+    let own = c .before .before .before .before .before .before .before .unit in (
+      term-by (a .text .now) (a .p) (a .depth) (a .v) (out (a .ents .now) (a .labs .now) (a .st)) (ands .result) (ands .ensures)
+          (if1 .left) (if2 .left) _
+          (λ n h. rw (
+            ← now .inv .4 n h,
+            many-fail (λ u x. atomBuilt n (a .text .now) (a .p) (a .depth) u x) (a .p) (a .text .now) ((a .st .col) + now .i)
+                (standing (now .ents) (now .labs) (now .at) (now .row) (now .col)) _ (ands .result - now .i) (ands .result - (now .i + 1))
+                (omega (arith, test .taken))
+                (c .before .before .before .before .build-atom .ensures .0 n (omega arith)
+                ∙ ap
+                (λ (u : List ℕ). atomBuilt n (a .text .now) (a .p) (a .depth) u
+                (standing (now .ents) (now .labs) (now .at) (now .row) (now .col)))
+                (own .ensures (a .p)))
+                (c .if3 .left),
+            c .if3 .left,
+          )),
+      λ e. never (sym (c .if3 .left) ∙ e),
+    )
 
 build-term-add-i : (t : ℕ) → build-term-lts.Need-add-i (build-term-claims t) (build-term-at t) build-term.Post build-term-Inv-loop build-term-μ-loop
 build-term-add-i t c = search needs
 
 build-term-loop-less : (t : ℕ) → build-term-lts.Need-loop-less (build-term-claims t) (build-term-at t) build-term.Post build-term-Inv-loop build-term-μ-loop
-build-term-loop-less t c = count.falls (c .before .before .before .before .before .before .before .before .before .before .before .before .before .before .before .before .atoms .result) (c .before .before .before .before .before .before .before .before .before .before .before .before .loop .i) (c .before .before .before .before .before .before .before .before .before .before .before .loop-test .taken)
+build-term-loop-less t c =
+    let ands = c .before .before .before .before .before .before .before .before .before .before .before .before .before .before .before .before .atoms in
+    let now = c .before .before .before .before .before .before .before .before .before .before .before .before .loop in
+    let test = c .before .before .before .before .before .before .before .before .before .before .before .loop-test in
+    count.falls (ands .result) (now .i) (test .taken)
 
 build-term-loop-again : (t : ℕ) → build-term-lts.Need-loop-again (build-term-claims t) (build-term-at t) build-term.Post build-term-Inv-loop build-term-μ-loop
-build-term-loop-again t c = let w = c .before .before .before .before .before .before .before .build-atom .ensures .1 (c .before .before .before .if3 .taken) in (omega (arith, c .before .before .before .before .before .before .before .before .before .before .before .loop-test .taken), omega (arith, c .before .before .before .before .before .before .before .before .before .before .before .before .loop .inv .1), c .before .before .before .before .before .before .before .build-atom .kept .1 .1 .1 .1 .0 ∙ c .before .before .before .before .before .before .before .before .before .before .before .before .loop .inv .2, c .before .before .before .before .before .before .before .build-atom .kept .1 .1 .1 .1 .1 .0 ∙ c .before .before .before .before .before .before .before .before .before .before .before .before .loop .inv .3, λ n h. many-next (λ u x. atomBuilt n (c .before .before .before .before .before .before .before .before .before .before .before .before .before .before .before .before .before .before .before .args .text .now) (c .before .before .before .before .before .before .before .before .before .before .before .before .before .before .before .before .before .before .before .args .p) (c .before .before .before .before .before .before .before .before .before .before .before .before .before .before .before .before .before .before .before .args .depth) u x) (c .before .before .before .before .before .before .before .before .before .before .before .before .before .before .before .before .before .before .before .args .p) (c .before .before .before .before .before .before .before .before .before .before .before .before .before .before .before .before .before .before .before .args .text .now) ((c .before .before .before .before .before .before .before .before .before .before .before .before .before .before .before .before .before .before .before .args .st .col) + c .before .before .before .before .before .before .before .before .before .before .before .before .loop .i) (standing (c .before .before .before .before .before .before .before .before .before .before .before .before .loop .ents) (c .before .before .before .before .before .before .before .before .before .before .before .before .loop .labs) (c .before .before .before .before .before .before .before .before .before .before .before .before .loop .at) (c .before .before .before .before .before .before .before .before .before .before .before .before .loop .row) (c .before .before .before .before .before .before .before .before .before .before .before .before .loop .col)) _ (c .before .before .before .before .before .before .before .before .before .before .before .before .before .before .before .before .atoms .result - c .before .before .before .before .before .before .before .before .before .before .before .before .loop .i) (c .before .before .before .before .before .before .before .before .before .before .before .before .before .before .before .before .atoms .result - (c .before .before .before .before .before .before .before .before .before .before .before .before .loop .i + 1)) (omega (arith, c .before .before .before .before .before .before .before .before .before .before .before .loop-test .taken)) (c .before .before .before .before .before .before .before .build-atom .ensures .0 n (omega arith) ∙ ap (λ (u : List ℕ). atomBuilt n (c .before .before .before .before .before .before .before .before .before .before .before .before .before .before .before .before .before .before .before .args .text .now) (c .before .before .before .before .before .before .before .before .before .before .before .before .before .before .before .before .before .before .before .args .p) (c .before .before .before .before .before .before .before .before .before .before .before .before .before .before .before .before .before .before .before .args .depth) u (standing (c .before .before .before .before .before .before .before .before .before .before .before .before .loop .ents) (c .before .before .before .before .before .before .before .before .before .before .before .before .loop .labs) (c .before .before .before .before .before .before .before .before .before .before .before .before .loop .at) (c .before .before .before .before .before .before .before .before .before .before .before .before .loop .row) (c .before .before .before .before .before .before .before .before .before .before .before .before .loop .col))) (c .before .before .before .before .before .before .before .before .before .before .unit .ensures (c .before .before .before .before .before .before .before .before .before .before .before .before .before .before .before .before .before .before .before .args .p))) ((c .before .before .before .before .before .before .before .before .before .before .before .before .before .before .before .before .before .before .before .args .st .col) + (c .before .before .before .before .before .before .before .before .before .before .before .before .loop .i + 1)) (sym (add-assoc (c .before .before .before .before .before .before .before .before .before .before .before .before .before .before .before .before .before .before .before .args .st .col) (c .before .before .before .before .before .before .before .before .before .before .before .before .loop .i) 1)) (c .before .before .before .if3 .taken) (ap isAnd (sym (c .before .before .kind-at .ensures) ∙ c .enum-told .given .1)) ∙ c .before .before .before .before .before .before .before .before .before .before .before .before .loop .inv .4 n h)
+build-term-loop-again t c =
+    let a = c .before .before .before .before .before .before .before .before .before .before .before .before .before .before .before .before .before .before .before .args in
+    let ands = c .before .before .before .before .before .before .before .before .before .before .before .before .before .before .before .before .atoms in
+    let now = c .before .before .before .before .before .before .before .before .before .before .before .before .loop in
+    let test = c .before .before .before .before .before .before .before .before .before .before .before .loop-test in
+    let own = c .before .before .before .before .before .before .before .before .before .before .unit in
+    let built = c .before .before .before .before .before .before .before .build-atom in
+    let if3 = c .before .before .before .if3 in
+    let w = built .ensures .1 (if3 .taken) in (
+      omega (arith, test .taken),
+      omega (arith, now .inv .1),
+      built .kept .1 .1 .1 .1 .0 ∙ now .inv .2,
+      built .kept .1 .1 .1 .1 .1 .0 ∙ now .inv .3,
+      λ n h. many-next (λ u x. atomBuilt n (a .text .now) (a .p) (a .depth) u x) (a .p) (a .text .now) ((a .st .col) + now .i)
+          (standing (now .ents) (now .labs) (now .at) (now .row) (now .col)) _ (ands .result - now .i) (ands .result - (now .i + 1))
+          (omega (arith, test .taken))
+          (built .ensures .0 n (omega arith) ∙ ap
+          (λ (u : List ℕ). atomBuilt n (a .text .now) (a .p) (a .depth) u (standing (now .ents) (now .labs) (now .at) (now .row) (now .col)))
+          (own .ensures (a .p)))
+          ((a .st .col) + (now .i + 1)) (sym (add-assoc (a .st .col) (now .i) 1)) (if3 .taken)
+          (ap isAnd (sym (c .before .before .kind-at .ensures) ∙ c .enum-told .given .1))
+          ∙ now .inv .4 n h,
+    )
 
 build-term-build-atom-requires-2 : (t : ℕ) → build-term-lts.Need-build-atom-requires-2 (build-term-claims t) (build-term-at t) build-term.Post build-term-Inv-loop build-term-μ-loop
 build-term-build-atom-requires-2 t c κs = search needs
@@ -327,7 +534,27 @@ build-term-same-length-6 : (t : ℕ) → build-term-lts.Need-same-length-6 (buil
 build-term-same-length-6 t c = search needs
 
 build-term-returns-5 : (t : ℕ) → build-term-lts.Need-returns-5 (build-term-claims t) (build-term-at t) build-term.Post build-term-Inv-loop build-term-μ-loop
-build-term-returns-5 t c = (term-by (c .before .before .before .before .before .before .before .before .before .before .before .before .before .before .args .text .now) (c .before .before .before .before .before .before .before .before .before .before .before .before .before .before .args .p) (c .before .before .before .before .before .before .before .before .before .before .before .before .before .before .args .depth) (c .before .before .before .before .before .before .before .before .before .before .before .before .before .before .args .v) (out (c .before .before .before .before .before .before .before .before .before .before .before .before .before .before .args .ents .now) (c .before .before .before .before .before .before .before .before .before .before .before .before .before .before .args .labs .now) (c .before .before .before .before .before .before .before .before .before .before .before .before .before .before .args .st)) (c .before .before .before .before .before .before .before .before .before .before .before .atoms .result) (c .before .before .before .before .before .before .before .before .before .before .before .atoms .ensures) (omega arith) (omega arith) _ (λ n h. rw (← c .before .before .before .before .before .before .before .loop .inv .4 n h, many-none (λ u x. atomBuilt n (c .before .before .before .before .before .before .before .before .before .before .before .before .before .before .args .text .now) (c .before .before .before .before .before .before .before .before .before .before .before .before .before .before .args .p) (c .before .before .before .before .before .before .before .before .before .before .before .before .before .before .args .depth) u x) (c .before .before .before .before .before .before .before .before .before .before .before .before .before .before .args .p) (c .before .before .before .before .before .before .before .before .before .before .before .before .before .before .args .text .now) ((c .before .before .before .before .before .before .before .before .before .before .before .before .before .before .args .st .col) + c .before .before .before .before .before .before .before .loop .i) (standing (c .before .before .before .before .before .before .before .loop .ents) (c .before .before .before .before .before .before .before .loop .labs) (c .before .before .before .before .before .before .before .loop .at) (c .before .before .before .before .before .before .before .loop .row) (c .before .before .before .before .before .before .before .loop .col)) (c .before .before .before .before .before .before .before .before .before .before .before .atoms .result - c .before .before .before .before .before .before .before .loop .i) (omega arith)) (sym (c .before .before .before .build-atom2 .ensures .0 n (omega arith) ∙ ap (λ (u : List ℕ). atomBuilt n (c .before .before .before .before .before .before .before .before .before .before .before .before .before .before .args .text .now) (c .before .before .before .before .before .before .before .before .before .before .before .before .before .before .args .p) (c .before .before .before .before .before .before .before .before .before .before .before .before .before .before .args .depth) u (standing (c .before .before .before .before .before .before .before .loop .ents) (c .before .before .before .before .before .before .before .loop .labs) (c .before .before .before .before .before .before .before .loop .at) (c .before .before .before .before .before .before .before .loop .row) (c .before .before .before .before .before .before .before .loop .col))) (c .before .before .before .before .before .before .before .before .last .ensures)))), λ e. let w = c .before .before .before .build-atom2 .ensures .1 e in omega arith)
+build-term-returns-5 t c =
+    let a = c .before .before .before .before .before .before .before .before .before .before .before .before .before .before .args in
+    let ands = c .before .before .before .before .before .before .before .before .before .before .before .atoms in
+    let if1 = c .before .before .before .before .before .before .before .before .before .before .if1 in
+    let if2 = c .before .before .before .before .before .before .before .before .before .if2 in
+    let last = c .before .before .before .before .before .before .before .before .last in
+    let now = c .before .before .before .before .before .before .before .loop in
+    let built = c .before .before .before .build-atom2 in (
+      term-by (a .text .now) (a .p) (a .depth) (a .v) (out (a .ents .now) (a .labs .now) (a .st)) (ands .result) (ands .ensures)
+          (if1 .left) (if2 .left) _
+          (λ n h. rw (
+            ← now .inv .4 n h,
+            many-none (λ u x. atomBuilt n (a .text .now) (a .p) (a .depth) u x) (a .p) (a .text .now) ((a .st .col) + now .i)
+                (standing (now .ents) (now .labs) (now .at) (now .row) (now .col)) (ands .result - now .i) (omega arith),
+          )
+          (sym
+          (built .ensures .0 n (omega arith) ∙ ap
+          (λ (u : List ℕ). atomBuilt n (a .text .now) (a .p) (a .depth) u (standing (now .ents) (now .labs) (now .at) (now .row) (now .col)))
+          (last .ensures)))),
+      λ e. let w = built .ensures .1 e in omega arith,
+    )
 
 pub +build-atom+build-rule+build-term-spec : {M : Type 1} → statement M
 +build-atom+build-rule+build-term-spec =
