@@ -1,7 +1,7 @@
 -- Laws of the builder's steps, of which the proofs of the code cite one at each return.
 -- Assumes nothing.
-use mathlib.Core.Path.{_≡_, refl, sym, ap, subst, _∙_}
-use mathlib.Core.Bool.{Bool, true, false, cond}
+use mathlib.Core.Path.{_≡_, refl, sym, subst, _∙_}
+use mathlib.Core.Bool.{true, false, cond}
 use mathlib.Core.List.{List, [], _∷_}
 use Prim.Native.Nat.{ℕ, zero, suc, _+_, _*_, _-_, _<_, _≤_}
 use native.Mathlib.Omega.{arith}
@@ -12,7 +12,7 @@ use denote.Enum.Declared.{tagOf}
 use borrow.Author.Tests.{lt-ltb, le-ltb, eq-eqb, ne-eqb}
 use Rattle.rules.specs.Construction.{lessAll}
 use Rattle.reader.proofs.Kind.{the-type}
-use Rattle.reader.proofs.Places.{not-atom, not-and}
+use Rattle.reader.proofs.Places.{not-atom}
 use Rattle.reader.specs.declared.Kind.the-variants.{Digit, And, Open}
 use Rattle.reader.specs.declared.Read.{Read}
 use Rattle.reader.specs.declared.Read.the-variants.{At, Bad}
@@ -152,6 +152,11 @@ module _ (s : List ℕ) (d at : ℕ) (r : Read) (is : (n : ℕ) → 3 * (length 
   unfolding andsFrom
   ands-none q e k zero h = refl
   ands-none q e k (suc n) h = rw (← is n (omega arith), e, k)
+
+-- The fuel of the whole text is enough.
+pub ands-all : (s : List ℕ) (d at m : ℕ) → ((n : ℕ) → 3 * (length s - at) + 1 < n → m ≡ andsFrom n s d at) → m ≡ andsAt s d at
+unfolding andsAt
+ands-all s d at m f = f (3 * length s + 3) (omega arith)
 
 -- A last atom's vector, column by column.
 pub last-zero : (p : ℕ) (v : List ℕ) (b m : ℕ) → m ≡ 0 → v ≡ lessAll (vectors p) b m v

@@ -1,6 +1,6 @@
 -- What the builder leaves where a rule, a term or an atom is written: the rows of the construction, and the place and the column past them.
 -- Assumes nothing.
-use mathlib.Core.Path.{_≡_, refl, sym, ap, ap₂, _∙_}
+use mathlib.Core.Path.{_≡_, refl, ap, _∙_}
 use mathlib.Core.Bool.{Bool, true, false, cond}
 use mathlib.Core.List.{List, [], _∷_, _++_, append-assoc}
 use Prim.Native.Nat.{ℕ, zero, suc, _+_, _-_, _*_, _<_, _≤_}
@@ -12,11 +12,10 @@ use lib.ListN.{length, length-append, length-drop, set, drop}
 use borrow.Author.Tests.{le-leb, ltb-true, ltb-false, lt-ltb, le-ltb, ne-eqb}
 use Rattle.rules.specs.Tree.{Rule, Term, Atom, term, _or_, atom, _and_, number, group, choice, ruleNames, termNames, atomNames}
 use Rattle.rules.specs.Text.{bar, ampersand, opening, closing, numeral, ruleText, termText, atomText, WellRule, WellTerm, WellAtom}
-use Rattle.rules.specs.Construction.{Vectors, ands, ruleTakes, insideTakes, atomTakes, lessAll, ruleRows, termRows, atomRows}
+use Rattle.rules.specs.Construction.{ands, ruleTakes, insideTakes, atomTakes, lessAll, ruleRows, termRows, atomRows}
 use Rattle.rules.proofs.Counting.{term-count, atom-count}
-use Rattle.reader.specs.declared.Read.{Read}
 use Rattle.reader.specs.declared.Read.the-variants.{At}
-use Rattle.reader.specs.Grammar.{classOf, kindAt, tag, isOr, isAnd, isClose, digit, numberEnd, atomEnd}
+use Rattle.reader.specs.Grammar.{classOf, kindAt, isOr, isAnd, isClose, digit, numberEnd}
 use Rattle.reader.proofs.Begins.{
   kind-of,
   past,
@@ -39,9 +38,7 @@ use Rattle.builder.specs.Building.{
   andsAt,
   Out,
   standing,
-  moved,
   chain,
-  numbered,
   atomsBuilt,
   ruleBuilt,
   termBuilt,

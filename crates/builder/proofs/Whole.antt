@@ -1,7 +1,7 @@
 -- The whole text: what the builder leaves for a rule that is not too large is what `Made` says.
 -- Assumes nothing.
 use mathlib.Core.Path.{_≡_, refl, sym, ap, ap₂, _∙_}
-use mathlib.Core.List.{List, [], _∷_, _++_, append-nil}
+use mathlib.Core.List.{List, [], _∷_, append-nil}
 use Prim.Native.Nat.{ℕ, zero, suc, _+_, _-_, _*_, _%_, _<_, _≤_}
 use native.Mathlib.Nat.{not-suc-le-zero, le-of-suc-le-suc, zero-add}
 use native.Mathlib.Omega.{arith}
@@ -16,7 +16,7 @@ use Rattle.reader.proofs.Ends.{nothing-follows}
 use Rattle.builder.specs.declared.Place.{Place}
 use Rattle.builder.specs.Building.{vectors, out, standing, ruleBuilt}
 use Rattle.builder.specs.Made.{Held, Made}
-use Rattle.builder.proofs.Trees.{written, rowsIn, labelsIn, done, rule-builds}
+use Rattle.builder.proofs.Trees.{written, done, rule-builds}
 
 -- The rows of the rule as the builder has them, in vectors of 12 numbers.
 abbrev wide : ℕ → Rule → List (ℕ × List ℕ)

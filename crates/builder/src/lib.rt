@@ -9,7 +9,7 @@ ghost use mathlib.Core.Path.{_≡_};
 ghost use Prim.Native.Nat.{ℕ, _+_, _*_, _-_, _<_, _≤_};
 ghost use lib.ListN.{length, set};
 ghost use Rattle.rules.specs.Construction.{lessAll};
-ghost use Rattle.builder.specs.Building.{vectors, numberValue, andsFrom, andsAt, out, Past, ruleBuilt, termBuilt, atomBuilt};
+ghost use Rattle.builder.specs.Building.{vectors, numberValue, andsFrom, out, Past, ruleBuilt, termBuilt, atomBuilt};
 ghost use Rattle.builder.specs.Made.{Made};
 
 // Where the builder stands: whether all went well, the place in the text, the next row, the next column.
@@ -97,13 +97,6 @@ fn ands(text: &[u8], depth: usize, at: usize) -> usize
     }
 }
 
-// The same, said with the fuel of the whole text.
-fn atoms(text: &[u8], depth: usize, at: usize) -> usize
-    ensures { λ r. ⌜ r ≡ andsAt (now (text .entry)) depth at ⌝ }
-{
-    ands(text, depth, at)
-}
-
 // A whole row stored, where there is the place.
 fn put_row(a: &mut [[u32; 12]], i: usize, x: [u32; 12])
     ensures { λ _. ⌜ now (a .exit) ≡ set (now (a .entry)) i x ⌝ }
@@ -114,7 +107,7 @@ fn put_row(a: &mut [[u32; 12]], i: usize, x: [u32; 12])
 }
 
 // A rule passes its vector v to every term. The three builders call each other as the readers do, and the same number falls.
-pub fn build_rule(
+fn build_rule(
     text: &[u8],
     depth: usize,
     p: u32,
@@ -151,7 +144,7 @@ pub fn build_rule(
 
 // A term takes its columns before anything inside it is looked at. A column past 12 or a 257th sign does not occur in a rule that is not
 // too large.
-pub fn build_term(
+fn build_term(
     text: &[u8],
     depth: usize,
     p: u32,
@@ -166,7 +159,7 @@ pub fn build_term(
 {
     let start = st.at;
     let base = st.col;
-    let m = atoms(text, depth, start);
+    let m = ands(text, depth, start);
     if 12 < base {
         return Place {
             ok: false,
@@ -231,7 +224,7 @@ pub fn build_term(
 }
 
 // A number becomes one row; a rule in parentheses gets the atom's vector.
-pub fn build_atom(
+fn build_atom(
     text: &[u8],
     depth: usize,
     p: u32,

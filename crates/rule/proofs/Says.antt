@@ -2,11 +2,10 @@
 -- exactly the sets for which the rule is true.
 -- Assumes nothing.
 use mathlib.Core.Path.{_≡_, refl, sym, ap, ap₂, subst, subst⁻¹, _∙_}
-use mathlib.Core.Bool.{Bool, true, false, _&&_}
+use mathlib.Core.Bool.{Bool, true, _&&_}
 use mathlib.Core.List.{List, [], _∷_}
 use mathlib.Core.Logic.{_⊎_, inl, inr, _↔_}
-use Prim.Native.Nat.{ℕ, zero, suc, _+_, _*_, _<_, _≤_}
-use native.Mathlib.Nat.{not-suc-le-zero, le-of-suc-le-suc}
+use Prim.Native.Nat.{ℕ, zero, suc, _*_, _<_, _≤_}
 use native.Mathlib.Omega.{arith}
 use lib.Dec.{eqb, leb, ltb}
 use lib.ListN.{length, getD, take, drop}
@@ -38,7 +37,7 @@ use Rattle.rule.specs.declared.Built.{Built}
 use Rattle.rule.specs.declared.Built.the-variants.{Scheme, Refused}
 use Rattle.rule.specs.Says.{frontRefusal, over, shapeOf, RuleSays}
 use Rattle.rule.specs.Copied.{Written}
-use Rattle.rule.proofs.Scheme.{Fits, rule-fits, entries-size, entries-below}
+use Rattle.rule.proofs.Scheme.{rule-fits, entries-size, entries-below}
 
 -- What holds where p, n and the lengths are not refused.
 pub record Front (p n labelPlaces entryPlaces : ℕ) : Type 0 where

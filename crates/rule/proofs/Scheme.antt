@@ -1,9 +1,9 @@
 -- What `build` writes is the scheme of the text's rule.
 -- Assumes nothing.
-use mathlib.Core.Path.{_≡_, refl, sym, ap, ap₂, _∙_}
+use mathlib.Core.Path.{_≡_, sym, ap, ap₂, _∙_}
 use mathlib.Core.Bool.{true}
 use mathlib.Core.List.{List, []}
-use mathlib.Core.Logic.{_⊎_, inl, inr}
+use mathlib.Core.Logic.{inl, inr}
 use Prim.Native.Nat.{ℕ, _+_, _*_, _-_, _/_, _%_, _<_, _≤_}
 use native.Mathlib.Nat.{mul-le-mul, div-add-mod', div-lt-iff-lt-mul, mod-lt}
 use native.Mathlib.Omega.{arith}
@@ -13,7 +13,6 @@ use lib.Seq.{getD-take}
 use borrow.Author.Tests.{leb-true}
 use Rattle.lists.proofs.Fill.{Filled, filled-front}
 use Rattle.linear.specs.Flat.{place}
-use Rattle.scheme.specs.declared.Shape.{Shape}
 use Rattle.scheme.specs.Tests.{each, unless, orElse}
 use Rattle.scheme.proofs.Refusals.{orElse-zero, unless-zero}
 use Rattle.rules.specs.Tree.{Rule, ruleNames}

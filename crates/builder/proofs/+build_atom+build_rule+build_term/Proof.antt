@@ -2,16 +2,15 @@
 -- Assumes nothing.
 use borrow.Author.Needs.{needs}
 use borrow.Author.Count as count
-use Prim.Native.Nat.{ℕ, suc, _+_, _*_, _-_, _<_, _≤_}
+use Prim.Native.Nat.{ℕ, _+_, _*_, _-_, _<_, _≤_}
 use mathlib.Core.Path.{_≡_, refl, sym, ap, subst, _∙_}
 use mathlib.Core.List.{List}
-use mathlib.Core.Bool.{true, false}
 use native.Mathlib.Omega.{arith}
 use native.Mathlib.Nat.{sub-zero, add-zero, add-assoc}
-use lib.ListN.{length, length-set}
-use Rattle.reader.specs.Grammar.{kindAt, isAnd, numberEnd, Within}
+use lib.ListN.{length}
+use Rattle.reader.specs.Grammar.{isAnd, Within}
 use Rattle.reader.proofs.Places.{seen-as, not-or, not-and, not-close, number-within}
-use Rattle.builder.specs.Building.{Out, out, standing, moved, chain, atomsBuilt, ruleBuilt, termBuilt, atomBuilt, Past, andsAt}
+use Rattle.builder.specs.Building.{out, standing, atomsBuilt, atomBuilt}
 use Rattle.builder.proofs.Steps.{
   at-number,
   at-other,
@@ -25,6 +24,7 @@ use Rattle.builder.proofs.Steps.{
   many-stop,
   many-fail,
   many-none,
+  ands-all,
   never,
   number-ok,
   number-full,
@@ -43,7 +43,7 @@ use Rattle.builder.proofs.build_term.Kinds as build-term-kinds
 use Rattle.builder.proofs.+build_atom+build_rule+build_term.Lts-build_term as build-term-lts
 use Rattle.reader.proofs.kind_at.Reads as kind-at-reads
 use Rattle.reader.proofs.number_end.Reads as number-end-reads
-use Rattle.builder.proofs.atoms.Reads as atoms-reads
+use Rattle.builder.proofs.ands.Reads as ands-reads
 use Rattle.builder.proofs.last.Reads as last-reads
 use Rattle.builder.proofs.put.Reads as put-reads
 use Rattle.builder.proofs.put_row.Reads as put-row-reads
@@ -92,7 +92,7 @@ abbrev build-rule-claims : ℕ → build-rule-lts.Claims
 build-rule-claims t = (build-term-below t, build-term.Post, kind-at-reads.Asked, kind-at-reads.Learnt, build-rule-below t, build-rule.Post)
 
 abbrev build-term-claims : ℕ → build-term-lts.Claims
-build-term-claims t = (atoms-reads.Asked, atoms-reads.Learnt, last-reads.Asked, last-reads.Learnt, unit-reads.Asked, unit-reads.Learnt, build-atom-below t, build-atom.Post, kind-at-reads.Asked, kind-at-reads.Learnt)
+build-term-claims t = (ands-reads.Asked, ands-reads.Learnt, last-reads.Asked, last-reads.Learnt, unit-reads.Asked, unit-reads.Learnt, build-atom-below t, build-atom.Post, kind-at-reads.Asked, kind-at-reads.Learnt)
 
 build-atom-kind-at-requires : (t : ℕ) → build-atom-lts.Need-kind-at-requires (build-atom-claims t) (build-atom-at t) build-atom.Post
 build-atom-kind-at-requires t c κs = search needs
@@ -379,8 +379,8 @@ build-term-Inv-loop s depth p ents₀ labs₀ start base m w at₀ row₀ col₀
 abbrev build-term-μ-loop : build-term-lts.MeasureT-loop
 build-term-μ-loop s depth p ents₀ labs₀ start base m w at₀ row₀ col₀ i₀ ents labs at row col i = m - i
 
-build-term-atoms-requires : (t : ℕ) → build-term-lts.Need-atoms-requires (build-term-claims t) (build-term-at t) build-term.Post build-term-Inv-loop build-term-μ-loop
-build-term-atoms-requires t c κs = search needs
+build-term-ands-requires : (t : ℕ) → build-term-lts.Need-ands-requires (build-term-claims t) (build-term-at t) build-term.Post build-term-Inv-loop build-term-μ-loop
+build-term-ands-requires t c κs = search needs
 
 build-term-returns : (t : ℕ) → build-term-lts.Need-returns (build-term-claims t) (build-term-at t) build-term.Post build-term-Inv-loop build-term-μ-loop
 build-term-returns t c =
@@ -390,8 +390,8 @@ build-term-returns t c =
 build-term-returns-2 : (t : ℕ) → build-term-lts.Need-returns-2 (build-term-claims t) (build-term-at t) build-term.Post build-term-Inv-loop build-term-μ-loop
 build-term-returns-2 t c =
     let a = c .before .before .before .before .before .args in
-    let ands = c .before .before .atoms in (
-      term-long (a .text .now) (a .p) (a .depth) (a .v) (out (a .ents .now) (a .labs .now) (a .st)) (ands .result) (ands .ensures)
+    let ands = c .before .before .ands in (
+      term-long (a .text .now) (a .p) (a .depth) (a .v) (out (a .ents .now) (a .labs .now) (a .st)) (ands .result) (ands-all _ _ _ _ (ands .ensures .0))
           (c .before .if1 .left) (c .if2 .taken),
       never,
     )
@@ -432,14 +432,14 @@ build-term-same-length-2 t c = search needs
 build-term-returns-3 : (t : ℕ) → build-term-lts.Need-returns-3 (build-term-claims t) (build-term-at t) build-term.Post build-term-Inv-loop build-term-μ-loop
 build-term-returns-3 t c =
     let a = c .before .before .before .before .before .before .before .before .before .before .before .before .before .before .before .before .before .before .args in
-    let ands = c .before .before .before .before .before .before .before .before .before .before .before .before .before .before .before .atoms in
+    let ands = c .before .before .before .before .before .before .before .before .before .before .before .before .before .before .before .ands in
     let if1 = c .before .before .before .before .before .before .before .before .before .before .before .before .before .before .if1 in
     let if2 = c .before .before .before .before .before .before .before .before .before .before .before .before .before .if2 in
     let now = c .before .before .before .before .before .before .before .before .before .before .before .loop in
     let test = c .before .before .before .before .before .before .before .before .before .before .loop-test in
     let own = c .before .before .before .before .before .before .before .before .before .unit in
     let built = c .before .before .before .before .before .before .build-atom in (
-      term-by (a .text .now) (a .p) (a .depth) (a .v) (out (a .ents .now) (a .labs .now) (a .st)) (ands .result) (ands .ensures)
+      term-by (a .text .now) (a .p) (a .depth) (a .v) (out (a .ents .now) (a .labs .now) (a .st)) (ands .result) (ands-all _ _ _ _ (ands .ensures .0))
           (if1 .left) (if2 .left) _
           (λ n h. rw (
             ← now .inv .4 n h,
@@ -465,13 +465,13 @@ build-term-same-length-4 t c = search needs
 build-term-returns-4 : (t : ℕ) → build-term-lts.Need-returns-4 (build-term-claims t) (build-term-at t) build-term.Post build-term-Inv-loop build-term-μ-loop
 build-term-returns-4 t c =
     let a = c .before .before .before .before .before .before .before .before .before .before .before .before .before .before .before .before .args in
-    let ands = c .before .before .before .before .before .before .before .before .before .before .before .before .before .atoms in
+    let ands = c .before .before .before .before .before .before .before .before .before .before .before .before .before .ands in
     let if1 = c .before .before .before .before .before .before .before .before .before .before .before .before .if1 in
     let if2 = c .before .before .before .before .before .before .before .before .before .before .before .if2 in
     let now = c .before .before .before .before .before .before .before .before .before .loop in
     let test = c .before .before .before .before .before .before .before .before .loop-test in
     let own = c .before .before .before .before .before .before .before .unit in (
-      term-by (a .text .now) (a .p) (a .depth) (a .v) (out (a .ents .now) (a .labs .now) (a .st)) (ands .result) (ands .ensures)
+      term-by (a .text .now) (a .p) (a .depth) (a .v) (out (a .ents .now) (a .labs .now) (a .st)) (ands .result) (ands-all _ _ _ _ (ands .ensures .0))
           (if1 .left) (if2 .left) _
           (λ n h. rw (
             ← now .inv .4 n h,
@@ -494,7 +494,7 @@ build-term-add-i t c = search needs
 
 build-term-loop-less : (t : ℕ) → build-term-lts.Need-loop-less (build-term-claims t) (build-term-at t) build-term.Post build-term-Inv-loop build-term-μ-loop
 build-term-loop-less t c =
-    let ands = c .before .before .before .before .before .before .before .before .before .before .before .before .before .before .before .before .atoms in
+    let ands = c .before .before .before .before .before .before .before .before .before .before .before .before .before .before .before .before .ands in
     let now = c .before .before .before .before .before .before .before .before .before .before .before .before .loop in
     let test = c .before .before .before .before .before .before .before .before .before .before .before .loop-test in
     count.falls (ands .result) (now .i) (test .taken)
@@ -502,7 +502,7 @@ build-term-loop-less t c =
 build-term-loop-again : (t : ℕ) → build-term-lts.Need-loop-again (build-term-claims t) (build-term-at t) build-term.Post build-term-Inv-loop build-term-μ-loop
 build-term-loop-again t c =
     let a = c .before .before .before .before .before .before .before .before .before .before .before .before .before .before .before .before .before .before .before .args in
-    let ands = c .before .before .before .before .before .before .before .before .before .before .before .before .before .before .before .before .atoms in
+    let ands = c .before .before .before .before .before .before .before .before .before .before .before .before .before .before .before .before .ands in
     let now = c .before .before .before .before .before .before .before .before .before .before .before .before .loop in
     let test = c .before .before .before .before .before .before .before .before .before .before .before .loop-test in
     let own = c .before .before .before .before .before .before .before .before .before .before .unit in
@@ -536,13 +536,13 @@ build-term-same-length-6 t c = search needs
 build-term-returns-5 : (t : ℕ) → build-term-lts.Need-returns-5 (build-term-claims t) (build-term-at t) build-term.Post build-term-Inv-loop build-term-μ-loop
 build-term-returns-5 t c =
     let a = c .before .before .before .before .before .before .before .before .before .before .before .before .before .before .args in
-    let ands = c .before .before .before .before .before .before .before .before .before .before .before .atoms in
+    let ands = c .before .before .before .before .before .before .before .before .before .before .before .ands in
     let if1 = c .before .before .before .before .before .before .before .before .before .before .if1 in
     let if2 = c .before .before .before .before .before .before .before .before .before .if2 in
     let last = c .before .before .before .before .before .before .before .before .last in
     let now = c .before .before .before .before .before .before .before .loop in
     let built = c .before .before .before .build-atom2 in (
-      term-by (a .text .now) (a .p) (a .depth) (a .v) (out (a .ents .now) (a .labs .now) (a .st)) (ands .result) (ands .ensures)
+      term-by (a .text .now) (a .p) (a .depth) (a .v) (out (a .ents .now) (a .labs .now) (a .st)) (ands .result) (ands-all _ _ _ _ (ands .ensures .0))
           (if1 .left) (if2 .left) _
           (λ n h. rw (
             ← now .inv .4 n h,
@@ -635,8 +635,8 @@ pub +build-atom+build-rule+build-term-spec : {M : Type 1} → statement M
     (build-rule-same-length-6 t)
     (build-rule-returns-3 t))
     λ t. build-term-lts.spec (
-      atoms-reads.Asked,
-      atoms-reads.Learnt,
+      ands-reads.Asked,
+      ands-reads.Learnt,
       last-reads.Asked,
       last-reads.Learnt,
       unit-reads.Asked,
@@ -650,7 +650,7 @@ pub +build-atom+build-rule+build-term-spec : {M : Type 1} → statement M
     build-term.Post
     build-term-Inv-loop
     build-term-μ-loop
-    (build-term-atoms-requires t)
+    (build-term-ands-requires t)
     (build-term-returns t)
     (build-term-returns-2 t)
     (build-term-last-requires t)

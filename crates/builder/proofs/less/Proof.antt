@@ -2,14 +2,11 @@
 -- Assumes nothing.
 use Rattle.rules.specs.Construction.{modulo}
 use lib.Seq.{set-out}
-use mathlib.Core.Path.{refl, sym}
+use mathlib.Core.Path.{sym}
 use native.Mathlib.Omega.{arith}
 use borrow.Author.Needs.{needs}
 use Rattle.builder.proofs.less.Statement.{statement}
 use Rattle.builder.proofs.less.Tie as tie
-use Rattle.builder.proofs.less.Reads as reads
-use Rattle.builder.proofs.less.Lts as lts
-use Rattle.residue.proofs.add.Reads as add-reads
 
 mul-x : tie.Need-mul-x
 mul-x c = search needs

@@ -1,14 +1,9 @@
 -- `builder::make` meets its contract.
 -- Assumes nothing.
 use Rattle.builder.proofs.Whole.{made-by}
-use native.Mathlib.Omega.{arith}
 use borrow.Author.Needs.{needs}
 use Rattle.builder.proofs.make.Statement.{statement}
 use Rattle.builder.proofs.make.Tie as tie
-use Rattle.builder.proofs.make.Reads as reads
-use Rattle.builder.proofs.make.Lts as lts
-use Rattle.builder.proofs.build_rule.Reads as build-rule-reads
-use Rattle.builder.proofs.unit.Reads as unit-reads
 
 unit-requires : tie.Need-unit-requires
 unit-requires c κs = search needs

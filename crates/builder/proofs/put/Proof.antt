@@ -5,8 +5,6 @@ use mathlib.Core.Path.{sym}
 use lib.Seq.{set-out}
 use Rattle.builder.proofs.put.Statement.{statement}
 use Rattle.builder.proofs.put.Tie as tie
-use Rattle.builder.proofs.put.Reads as reads
-use Rattle.builder.proofs.put.Lts as lts
 
 mul-a : tie.Need-mul-a
 mul-a c = search needs

@@ -1,13 +1,10 @@
 -- `builder::put_row` meets its contract.
 -- Assumes nothing.
-use native.Mathlib.Omega.{arith}
 use borrow.Author.Needs.{needs}
 use mathlib.Core.Path.{sym}
 use lib.Seq.{set-out}
 use Rattle.builder.proofs.put_row.Statement.{statement}
 use Rattle.builder.proofs.put_row.Tie as tie
-use Rattle.builder.proofs.put_row.Reads as reads
-use Rattle.builder.proofs.put_row.Lts as lts
 
 mul-x : tie.Need-mul-x
 mul-x c = search needs

@@ -6,8 +6,6 @@ use lib.Seq.{set-out}
 use Rattle.rules.specs.Construction.{modulo}
 use Rattle.builder.proofs.unit.Statement.{statement}
 use Rattle.builder.proofs.unit.Tie as tie
-use Rattle.builder.proofs.unit.Reads as reads
-use Rattle.builder.proofs.unit.Lts as lts
 
 mul-v : tie.Need-mul-v
 mul-v c = search needs

@@ -5,9 +5,6 @@ use Rattle.builder.specs.Building.{numberValue}
 use Rattle.reader.proofs.Places.{not-digit}
 use Rattle.builder.proofs.value_at.Statement.{statement}
 use Rattle.builder.proofs.value_at.Tie as tie
-use Rattle.builder.proofs.value_at.Reads as reads
-use Rattle.builder.proofs.value_at.Lts as lts
-use Rattle.reader.proofs.kind_at.Reads as kind-at-reads
 
 add-kind-at : tie.Need-add-kind-at
 add-kind-at c = search needs

@@ -8,12 +8,6 @@ use Rattle.scheme.proofs.Refusals.{gone}
 use Rattle.rule.proofs.Says.{front-parts, says-front, says-text, says-scheme}
 use Rattle.rule.proofs.build.Statement.{statement}
 use Rattle.rule.proofs.build.Tie as tie
-use Rattle.rule.proofs.build.Reads as reads
-use Rattle.rule.proofs.build.Lts as lts
-use Rattle.reader.proofs.refusal.Reads as refusal-reads
-use Rattle.rule.proofs.blank.Reads as blank-reads
-use Rattle.rule.proofs.front_refusal.Reads as front-refusal-reads
-use Rattle.rule.proofs.write.Reads as write-reads
 
 front-refusal-requires : tie.Need-front-refusal-requires
 front-refusal-requires c κs = search needs

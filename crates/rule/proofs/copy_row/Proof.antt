@@ -6,9 +6,6 @@ use Rattle.rule.proofs.Copies.{filled-part}
 use borrow.Author.Needs.{needs}
 use Rattle.rule.proofs.copy_row.Statement.{statement}
 use Rattle.rule.proofs.copy_row.Tie as tie
-use Rattle.rule.proofs.copy_row.Reads as reads
-use Rattle.rule.proofs.copy_row.Lts as lts
-use Rattle.rule.proofs.copy.Reads as copy-reads
 
 sub-copy : tie.Need-sub-copy
 sub-copy c = search needs

@@ -8,9 +8,6 @@ use borrow.Author.Needs.{needs}
 use native.Mathlib.Omega.{arith}
 use Rattle.rule.proofs.copy_rows.Statement.{statement}
 use Rattle.rule.proofs.copy_rows.Tie as tie
-use Rattle.rule.proofs.copy_rows.Reads as reads
-use Rattle.rule.proofs.copy_rows.Lts as lts
-use Rattle.rule.proofs.copy_row.Reads as copy-row-reads
 
 abbrev Inv-loop : tie.InvT-loop
 Inv-loop d e table entries₀ k₀ entries k = (k ≤ d) × Copied k e table entries₀ entries

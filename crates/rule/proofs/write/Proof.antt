@@ -8,11 +8,6 @@ use Rattle.rule.proofs.Scheme.{made-small, written}
 use borrow.Author.Needs.{needs}
 use Rattle.rule.proofs.write.Statement.{statement}
 use Rattle.rule.proofs.write.Tie as tie
-use Rattle.rule.proofs.write.Reads as reads
-use Rattle.rule.proofs.write.Lts as lts
-use Rattle.builder.proofs.make.Reads as make-reads
-use Rattle.rule.proofs.copy.Reads as copy-reads
-use Rattle.rule.proofs.copy_rows.Reads as copy-rows-reads
 
 make-requires : tie.Need-make-requires
 make-requires c κs = search needs
