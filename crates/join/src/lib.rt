@@ -2,16 +2,16 @@
 use scheme::Shape;
 ghost use mathlib.Core.Path.{_≡_};
 ghost use mathlib.Core.Bool.{cond};
-ghost use Prim.Native.Nat.{ℕ, _<_, _≤_, _+_, _*_, _%_};
+ghost use Prim.Native.Nat.{ℕ, _<_, _≤_, _*_, _%_};
 ghost use lib.ListN.{length, getD};
 ghost use Rattle.residue.specs.Prime.{Prime};
 ghost use Rattle.linear.specs.Combination.{total};
-ghost use Rattle.linear.specs.Flat.{place, entry};
+ghost use Rattle.linear.specs.Flat.{place};
 ghost use Rattle.linear.specs.Bits.{bit};
 ghost use Rattle.scheme.specs.Sets.{ofSet};
 ghost use Rattle.scheme.specs.Refusal.{readBelow, joinRefusal};
 ghost use Rattle.join.specs.Says.{JoinSays};
-ghost use Rattle.join.specs.Steps.{Turned, MaskedTo, FitsSays, RowsSay};
+ghost use Rattle.join.specs.Steps.{MaskedTo, FitsSays, RowsSay};
 
 // The code, or a refusal with the paper's number.
 pub enum Joined {
@@ -67,45 +67,15 @@ fn where_chosen(chosen: u32, k: usize, x: u32) -> u32
     0
 }
 
-// The columns over the chosen rows, one after another.
-fn turn(d: usize, e: usize, chosen: u32, entries: &[u32], a: &mut [u32])
-    requires { ⌜ (d ≤ 32) × (e ≤ 12) × (length (now entries) ≡ d * e) × (length (now a) ≡ e * d) ⌝ }
-    ensures same { λ _. ⌜ length (now (a .exit)) ≡ length (now (a .entry)) ⌝ }
-    ensures turned { λ _. ⌜ Turned d e (bit chosen) (now (entries .entry)) (now (a .exit)) ⌝ }
+// The list's numbers at the chosen rows, and 0 at the others: place i is of row i % d, in the shares and in column after column.
+fn mask(d: usize, chosen: u32, list: &[u32], x: &mut [u32])
+    requires { ⌜ (0 < d) × (d ≤ 32) × (length (now x) ≡ length (now list)) ⌝ }
+    ensures { λ _. ⌜ MaskedTo d (bit chosen) (now (list .entry)) (now (x .exit)) ⌝ }
 {
-    let mut j = 0;
-    while j < e {
-        column(d, e, j, chosen, entries, &mut *a);
-        j += 1;
-    }
-}
-
-// Column j over the chosen rows, in its d places of a; the columns before it stay.
-fn column(d: usize, e: usize, j: usize, chosen: u32, entries: &[u32], a: &mut [u32])
-    requires { ⌜ (d ≤ 32) × (e ≤ 12) × (j < e) × (length (now entries) ≡ d * e) × (length (now a) ≡ e * d) ⌝ }
-    ensures same { λ _. ⌜ length (now (a .exit)) ≡ length (now (a .entry)) ⌝ }
-    ensures here { λ _. ⌜ ((k : ℕ) → k < d → place (now (a .exit)) (j * d + k)
-        ≡ cond (bit chosen k) (entry e (now (entries .entry)) k j) 0) ⌝ }
-    ensures before { λ _. ⌜ ((i : ℕ) → i < j * d → place (now (a .exit)) i ≡ place (now (a .entry)) i) ⌝ }
-{
-    let at = j * d;
-    let mut k = 0;
-    while k < d {
-        let x = entries[k * e + j];
-        a[at + k] = where_chosen(chosen, k, x);
-        k += 1;
-    }
-}
-
-// The shares at the chosen rows, and 0 at the others.
-fn mask(chosen: u32, shares: &[u32], x: &mut [u32])
-    requires { ⌜ (length (now shares) ≤ 32) × (length (now x) ≡ length (now shares)) ⌝ }
-    ensures { λ _. ⌜ MaskedTo (length (now (shares .entry))) (bit chosen) (now (shares .entry)) (now (x .exit)) ⌝ }
-{
-    let mut k = 0;
-    while k < x.len() {
-        x[k] = where_chosen(chosen, k, shares[k]);
-        k += 1;
+    let mut i = 0;
+    while i < x.len() {
+        x[i] = where_chosen(chosen, i % d, list[i]);
+        i += 1;
     }
 }
 
@@ -123,7 +93,7 @@ fn weighted(p: u32, r: &[u32], shares: &[u32]) -> u32
     acc
 }
 
-// `fits` with its working space lent.
+// `fits` with its working space lent; `duals` first holds the columns over all rows.
 fn fits_in(
     p: u32,
     d: usize,
@@ -139,12 +109,13 @@ fn fits_in(
     c: &mut [u32],
 ) -> bool
     requires { ⌜ Prime p ⌝ }
-    requires { ⌜ (d ≤ 32) × (e ≤ 12) × (length (now entries) ≡ d * e) × (length (now shares) ≡ d) × (length (now columns) ≡ e * d)
+    requires { ⌜ (1 ≤ d) × (d ≤ 32) × (length (now entries) ≡ d * e) × (length (now shares) ≡ d) × (length (now columns) ≡ e * d)
         × (length (now goal) ≡ d) × (length (now duals) ≡ e * d) × (length (now t) ≡ d) × (length (now u) ≡ d) × (length (now c) ≡ e) ⌝ }
     ensures { λ r. ⌜ FitsSays p d e chosen (now (entries .entry)) (now (shares .entry)) r ⌝ }
 {
-    turn(d, e, chosen, entries, columns);
-    mask(chosen, shares, goal);
+    tables::turn(d, e, entries, duals);
+    mask(d, chosen, duals, columns);
+    mask(d, chosen, shares, goal);
     combination::find(p, e, d, columns, goal, duals, t, u, c)
 }
 

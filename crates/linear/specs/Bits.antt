@@ -5,4 +5,4 @@ use Prim.Native.Nat.{ℕ, _/_, _%_, _^_}
 use lib.Dec.{eqb}
 
 abbrev pub bit : ℕ → ℕ → Bool
-bit number k = eqb (number / 2 ^ k % 2) 1
+bit number k = eqb ((number / 2 ^ k) % 2) 1

@@ -25,9 +25,9 @@ module _ (p n : ℕ) (N : ℕ → ℕ → ℕ) where
   abbrev pub Combination : ℕ → (ℕ → ℕ) → Type 0
   Combination m t = (c : ℕ → ℕ) × AddUpTo m c t
 
-  -- t is a combination of the kept ones of the first m vectors.
+  -- t is a combination of the marked ones of the first m vectors.
   abbrev pub CombinationOf : (ℕ → Bool) → ℕ → (ℕ → ℕ) → Type 0
-  CombinationOf kept m t = (c : ℕ → ℕ) × ((k : ℕ) → k < m → kept k ≡ false → c k ≡ 0) × AddUpTo m c t
+  CombinationOf marked m t = (c : ℕ → ℕ) × ((k : ℕ) → k < m → marked k ≡ false → c k ≡ 0) × AddUpTo m c t
 
   -- "keep a [vector] when it is not a combination of those kept before it": of the first m vectors exactly those are kept.
   -- A zero vector is a combination of none, with all weights 0, so it is never kept (`zero-not-kept` of proofs/Numbers.antt).

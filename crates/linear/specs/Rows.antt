@@ -55,8 +55,8 @@ module _ (p d e : ℕ) (E : ℕ → ℕ → ℕ) (chosen : ℕ → Bool) where
     pub rule : KeptRows kept
     pub number : count d kept ≡ s
 
-  -- What is handed out: where the chosen rows are open, r′ is the opening vector and z stays; where they are closed, z′ is the witness and
-  -- r stays. r and z are the lent lists before the call, r′ and z′ after it.
+  -- What is handed out. True: r′ is the opening vector, so the chosen rows are open (`opening-opens` of proofs/Handed.antt), and z stays.
+  -- False: z′ is the witness, so they are closed (`witness-closes`), and r stays. r and z are the lent lists before the call, r′ and z′ after.
   abbrev pub Handed : List ℕ → List ℕ → Bool → List ℕ → List ℕ → Type 0
   Handed r z true r′ z′ = OpeningVector (place r′) × (length r′ ≡ d) × (z′ ≡ z)
   Handed r z false r′ z′ = Witness (place z′) × (length z′ ≡ e) × (r′ ≡ r)

@@ -4,6 +4,7 @@ use mathlib.Core.Path.{_≡_, refl, sym, ap, _∙_}
 use mathlib.Core.List.{List}
 use mathlib.Core.Logic.{⊎-elim}
 use Prim.Native.Nat.{ℕ, _<_, _≤_, _+_, _-_, _*_, _%_}
+use native.Mathlib.Nat.{mul-le-mul}
 use native.Mathlib.Numerals.{add-one}
 use native.Mathlib.Omega.{arith}
 use lib.ListN.{length}
@@ -89,3 +90,10 @@ module _ (p d e : ℕ) (entries a₀ : List ℕ) where
 
   pub filling-end : (a : List ℕ) (k : ℕ) → Filling p d e entries a₀ a k → d ≤ k → RowsOfProducts p d e entries a₀ a
   filling-end a k h l = record { size = h .size; rows = λ n i ln li. h .done n (omega (arith, h .upto)) i li }
+
+-- The working space.
+pub pairs-few : (e : ℕ) → e ≤ 12 → pairs e ≤ 78
+pairs-few e l = let h = mul-le-mul {n₁ = e} {m₁ = e + 1} {n₂ = 12} {m₂ = 13} l (omega arith) in omega arith
+
+pub products-few : (d e q : ℕ) → d ≤ 32 → e ≤ 12 → q ≡ pairs e → d * q ≤ 2496
+products-few d e q ld le s = mul-le-mul {n₁ = d} {m₁ = q} {n₂ = 32} {m₂ = 78} ld (omega (arith, pairs-few e le))

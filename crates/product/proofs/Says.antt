@@ -1,8 +1,8 @@
--- What `product` answers, from what the question of the product rows answers; that it settles the outcome; and that its yes and no are
--- those of the definition with any two lists b and c.
+-- What `product` answers, from what the question of the product rows answers: its yes and no are those of the definition with any two lists
+-- b and c. And that it settles the outcome.
 -- Assumes nothing.
-use mathlib.Core.Path.{_≡_, refl, sym, ap, ap₂, _∙_}
-use mathlib.Core.Bool.{Bool, true, false, _&&_, true≢false, false≢true}
+use mathlib.Core.Path.{_≡_, refl, sym, ap, ap₂, _∙_, subst}
+use mathlib.Core.Bool.{Bool, true, false, _&&_}
 use mathlib.Core.List.{List}
 use Prim.Native.Nat.{ℕ, _<_}
 use native.Mathlib.Omega.{arith}
@@ -18,9 +18,9 @@ use Rattle.products.proofs.Product.{yes-multiplies, no-product}
 use Rattle.scheme.specs.declared.Shape.{Shape}
 use Rattle.scheme.specs.Refusal.{refusalOf, productRefusal, IsScheme}
 use Rattle.scheme.proofs.Refusals.{Valid, valid, valid-fits, and-true}
-use Rattle.product.specs.declared.Product.{Product}
-use Rattle.product.specs.declared.Product.the-variants.{Yes, No, Refused}
-use Rattle.product.specs.Says.{HasProduct, Handed, ProductSays}
+use Rattle.product.specs.declared.Verdict.{Verdict}
+use Rattle.product.specs.declared.Verdict.the-variants.{Yes, No, Refused}
+use Rattle.product.specs.Says.{HasProduct, ProductHanded, ProductSays}
 use Rattle.product.specs.Steps.{RowsOfProducts}
 
 -- A call that is not refused is on a valid scheme, and its result lists have their lengths.
@@ -44,55 +44,66 @@ pub says-refused : (s : Shape) (labels entries r w : List ℕ) (k : ℕ) → k �
 unfolding ProductSays
 says-refused s labels entries r w k e h = (sym e, omega arith, refl, refl)
 
--- The table of the product rows answers for the product rows.
-module _ (s : Shape) (labels entries r w r′ w′ a₀ a : List ℕ) (h : productRefusal s labels entries (length r) (length w) ≡ 0)
-    (t : RowsOfProducts (s .p) (s .d) (s .e) entries a₀ a) where
-  handed : (o : Bool) → Rows.Handed (s .p) (s .d) (pairs (s .e)) (entry (pairs (s .e)) a) every r w o r′ w′ → Handed s entries r w o r′ w′
-  handed o x = handed-same (s .p) (s .d) (pairs (s .e)) (entry (pairs (s .e)) a) (productRows (s .p) (s .e) (entry (s .e) entries)) every every
-      (t .rows) (λ k l. refl) r w o r′ w′ x
+-- What the table of the product rows answers is what the product rows answer.
+pub table-answers : (p d e q : ℕ) (entries a₀ a r w : List ℕ) (o : Bool) (r′ w′ : List ℕ) → q ≡ pairs e → RowsOfProducts p d e entries a₀ a
+    → Rows.Handed p d q (entry q a) every r w o r′ w′ → Rows.Handed p d (pairs e) (productRows p e (entry e entries)) every r w o r′ w′
+table-answers p d e q entries a₀ a r w o r′ w′ e₁ t h =
+    handed-same p d (pairs e) (entry (pairs e) a) (productRows p e (entry e entries)) every every (t .rows) (λ k l. refl) r w o r′ w′
+    (subst (λ (n : ℕ). Rows.Handed p d n (entry n a) every r w o r′ w′) e₁ h)
 
-  pub says-yes : Rows.Handed (s .p) (s .d) (pairs (s .e)) (entry (pairs (s .e)) a) every r w true r′ w′ → ProductSays s labels entries r w Yes r′ w′
+module _ (s : Shape) (labels entries r w r′ w′ : List ℕ) (h : productRefusal s labels entries (length r) (length w) ≡ 0) (o : Bool)
+    (x : ProductHanded s entries r w o r′ w′) where
+  given : Valid s labels entries
+  given = product-valid s labels entries (length r) (length w) h
+
+  at : (b : Bool) → o ≡ b → ProductHanded s entries r w b r′ w′
+  at b q = subst (λ (b : Bool). ProductHanded s entries r w b r′ w′) q x
+
+  -- The r handed out has what the definition asks, for any two lists b and c; with the w handed out no r has it.
+  pub says-yes : o ≡ true → ProductSays s labels entries r w Yes r′ w′
   unfolding ProductSays
-  says-yes x = (h, handed true x)
+  says-yes q = (
+    h,
+    (place r′, yes-multiplies (s .p) (s .d) (s .e) (entry (s .e) entries) (given .e-low) (place r′) (at true q .0)),
+    at true q,
+  )
 
-  pub says-no : Rows.Handed (s .p) (s .d) (pairs (s .e)) (entry (pairs (s .e)) a) every r w false r′ w′ → ProductSays s labels entries r w No r′ w′
+  pub says-no : o ≡ false → ProductSays s labels entries r w No r′ w′
   unfolding ProductSays
-  says-no x = (h, handed false x)
+  says-no q = (
+    h,
+    no-product (s .p) (s .d) (s .e) (entry (s .e) entries) (given .e-low) (given .prime) (place w′) (at false q .0),
+    at false q,
+  )
 
+-- Two outcomes that the contract permits are equal.
 module _ (s : Shape) (labels entries r w : List ℕ) where
   -- A call that is not refused.
   abbrev Free : Type 0
   Free = productRefusal s labels entries (length r) (length w) ≡ 0
 
-  same : Free → (a b : Bool) (r₁ w₁ r₂ w₂ : List ℕ) → Handed s entries r w a r₁ w₁ → Handed s entries r w b r₂ w₂
-      → (a ≡ b) × (r₁ ≡ r₂) × (w₁ ≡ w₂)
-  same h = let v = product-valid s labels entries (length r) (length w) h in
+  same : Free → (b : Bool) (r₁ w₁ r₂ w₂ : List ℕ) → ProductHanded s entries r w b r₁ w₁ → ProductHanded s entries r w b r₂ w₂
+      → (b ≡ b) × (r₁ ≡ r₂) × (w₁ ≡ w₂)
+  same h b = let v = product-valid s labels entries (length r) (length w) h in
       handed-settled (s .p) (v .prime) (s .d) (pairs (s .e)) (pairs-some (s .e) (v .e-low))
-      (productRows (s .p) (s .e) (entry (s .e) entries)) every r w
+      (productRows (s .p) (s .e) (entry (s .e) entries)) every r w b b
 
-  -- Two outcomes that the contract permits are equal.
-  pub settled : (a b : Product) (r₁ w₁ r₂ w₂ : List ℕ) → ProductSays s labels entries r w a r₁ w₁ → ProductSays s labels entries r w b r₂ w₂
+  pub settled : (a b : Verdict) (r₁ w₁ r₂ w₂ : List ℕ) → ProductSays s labels entries r w a r₁ w₁ → ProductSays s labels entries r w b r₂ w₂
       → (a ≡ b) × (r₁ ≡ r₂) × (w₁ ≡ w₂)
   unfolding ProductSays
-  settled Yes Yes r₁ w₁ r₂ w₂ x y = let q = same (x .0) true true r₁ w₁ r₂ w₂ (x .1) (y .1) in (refl, q .1, q .2)
-  settled Yes No r₁ w₁ r₂ w₂ x y = absurd (true≢false (same (x .0) true false r₁ w₁ r₂ w₂ (x .1) (y .1) .0))
+  settled Yes Yes r₁ w₁ r₂ w₂ x y = let q = same (x .0) true r₁ w₁ r₂ w₂ (x .2) (y .2) in (refl, q .1, q .2)
+  settled Yes No r₁ w₁ r₂ w₂ x y = absurd (y .1 (x .1))
   settled Yes (Refused k) r₁ w₁ r₂ w₂ x y = absurd (omega (arith, x .0, y .0, y .1))
-  settled No Yes r₁ w₁ r₂ w₂ x y = absurd (false≢true (same (x .0) false true r₁ w₁ r₂ w₂ (x .1) (y .1) .0))
-  settled No No r₁ w₁ r₂ w₂ x y = let q = same (x .0) false false r₁ w₁ r₂ w₂ (x .1) (y .1) in (refl, q .1, q .2)
+  settled No Yes r₁ w₁ r₂ w₂ x y = absurd (x .1 (y .1))
+  settled No No r₁ w₁ r₂ w₂ x y = let q = same (x .0) false r₁ w₁ r₂ w₂ (x .2) (y .2) in (refl, q .1, q .2)
   settled No (Refused k) r₁ w₁ r₂ w₂ x y = absurd (omega (arith, x .0, y .0, y .1))
   settled (Refused j) Yes r₁ w₁ r₂ w₂ x y = absurd (omega (arith, x .0, x .1, y .0))
   settled (Refused j) No r₁ w₁ r₂ w₂ x y = absurd (omega (arith, x .0, x .1, y .0))
   settled (Refused j) (Refused k) r₁ w₁ r₂ w₂ x y = (ap Refused (sym (x .0) ∙ y .0), x .2 ∙ sym (y .2), x .3 ∙ sym (y .3))
 
-  -- The call's yes is the definition's: the r handed out has it, for any two lists b and c.
-  pub yes-is : (r₁ w₁ : List ℕ) → ProductSays s labels entries r w Yes r₁ w₁
+  -- The r handed out is one that the definition asks for.
+  pub vector-multiplies : (r₁ w₁ : List ℕ) → ProductSays s labels entries r w Yes r₁ w₁
       → Multiplies (s .p) (s .d) (s .e) (entry (s .e) entries) (place r₁)
   unfolding ProductSays
-  yes-is r₁ w₁ x = let v = product-valid s labels entries (length r) (length w) (x .0) in
-      yes-multiplies (s .p) (s .d) (s .e) (entry (s .e) entries) (v .e-low) (place r₁) (x .1 .0)
-
-  -- The call's no is the definition's: with the w handed out no r has it.
-  pub no-is : (r₁ w₁ : List ℕ) → ProductSays s labels entries r w No r₁ w₁ → HasProduct s entries → ⊥
-  unfolding ProductSays
-  no-is r₁ w₁ x = let v = product-valid s labels entries (length r) (length w) (x .0) in
-      no-product (s .p) (s .d) (s .e) (entry (s .e) entries) (v .e-low) (v .prime) (place w₁) (x .1 .0)
+  vector-multiplies r₁ w₁ x = let v = product-valid s labels entries (length r) (length w) (x .0) in
+      yes-multiplies (s .p) (s .d) (s .e) (entry (s .e) entries) (v .e-low) (place r₁) (x .2 .0)

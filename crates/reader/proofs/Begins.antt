@@ -4,12 +4,12 @@ use mathlib.Core.Path.{_≡_, refl, sym, ap, subst, _∙_}
 use mathlib.Core.Bool.{Bool, true, false, cond}
 use mathlib.Core.List.{List, [], _∷_, _++_, nil≢cons, head-eq-of-cons-eq}
 use mathlib.Core.Logic.{⊎-elim}
-use Prim.Native.Nat.{ℕ, zero, suc, _+_, _-_, _≤_, _<_}
+use Prim.Native.Nat.{ℕ, _+_, _-_, _≤_, _<_}
 use native.Mathlib.Omega.{arith}
-use lib.Dec.{eqb, leb, ltb}
+use lib.Dec.{eqb, leb}
 use lib.ListN.{length, drop, drop-of-length-le}
 use lib.Seq.{drop-drop, drop-append-seam}
-use borrow.Author.Tests.{leb-true, leb-false, eqb-true, eq-eqb, ne-eqb, lt-ltb, le-ltb, le-leb, ltb-true}
+use borrow.Author.Tests.{leb-true, eqb-true, eq-eqb, ne-eqb, lt-ltb, le-ltb, le-leb, ltb-true}
 use Rattle.algebra.proofs.Cases.{lt-or-ge, same?}
 use Rattle.residue.proofs.Moduli.{drop-next}
 use Rattle.rules.specs.Text.{bar, ampersand, opening, closing}
@@ -117,6 +117,10 @@ abbrev pub Not : ℕ → List ℕ → Type 0
 Not byte [] = Unit {0}
 Not byte (b ∷ s) = b ≡ byte → ⊥
 
+pub not-here : (byte : ℕ) (y z : List ℕ) → y ≡ byte ∷ z → Not byte y → ⊥
+not-here byte [] z e n = nil≢cons e
+not-here byte (b ∷ y) z e n = n (head-eq-of-cons-eq e)
+
 -- A sign is seen just where the text that is left begins with its byte.
 module _ {k : Kind} {byte : ℕ} (sign : Sign k byte) (s : List ℕ) (q : ℕ) where
   pub sign-true : (z : List ℕ) → drop q s ≡ byte ∷ z → eqb (tag (kindAt s q)) (tag k) ≡ true
@@ -132,11 +136,7 @@ module _ {k : Kind} {byte : ℕ} (sign : Sign k byte) (s : List ℕ) (q : ℕ) w
   sign-here e = begins (drop q s) refl (eqb-true (tag (kindAt s q)) (tag k) e)
 
   pub sign-false : (z : List ℕ) → drop q s ≡ z → Not byte z → eqb (tag (kindAt s q)) (tag k) ≡ false
-  sign-false z e n = ne-eqb (tag (kindAt s q)) (tag k) (λ f. no z n (sym e ∙ begins z e f))
-    where
-      no : (z : List ℕ) → Not byte z → z ≡ byte ∷ drop (q + 1) s → ⊥
-      no [] n h = nil≢cons h
-      no (b ∷ z) n h = n (head-eq-of-cons-eq h)
+  sign-false z e n = ne-eqb (tag (kindAt s q)) (tag k) (λ f. not-here byte z (drop (q + 1) s) (sym e ∙ begins z e f) n)
 
 -- A text that does not begin with a digit.
 abbrev pub NoDigit : List ℕ → Type 0
@@ -184,7 +184,10 @@ module _ (s : List ℕ) (q : ℕ) where
   pub digit-false : (z : List ℕ) → drop q s ≡ z → NoDigit z → isDigit (kindAt s q) ≡ false
   digit-false [] e n = ap isDigit (seen-of s q [] e)
   digit-false (b ∷ z) e n = le-ltb (tag (kindAt s q)) 2
-      (⊎-elim (λ l. absurd (let h = digit-byte b (kindAt s q) (seen-of s q (b ∷ z) e) l in n (h .0) (h .1))) (λ l. l) (lt-or-ge (tag (kindAt s q)) 2))
+      (⊎-elim
+      (λ l. absurd (let h = digit-byte b (kindAt s q) (seen-of s q (b ∷ z) e) l in n (h .0) (h .1)))
+      (λ l. l)
+      (lt-or-ge (tag (kindAt s q)) 2))
 
 -- The kind of a digit.
 pub class-digit : (b : ℕ) → 49 ≤ b → b ≤ 57 → classOf b ≡ Digit (b - 48)

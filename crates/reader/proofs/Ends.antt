@@ -1,6 +1,6 @@
 -- The readers miss nothing: where a rule, a term or an atom is written, with what may follow it, they say where it ends.
 -- Assumes nothing.
-use mathlib.Core.Path.{_≡_, refl, sym, ap, _∙_}
+use mathlib.Core.Path.{_≡_, refl, ap, _∙_}
 use mathlib.Core.Bool.{Bool, true, false, cond}
 use mathlib.Core.List.{List, [], _∷_, _++_, append-assoc}
 use Prim.Native.Nat.{ℕ, zero, suc, _+_, _*_, _-_, _≤_, _<_}
@@ -114,7 +114,8 @@ module _ (n : ℕ) (s : List ℕ) (d at : ℕ) where
         le-leb (digit (classOf (38 + i))) 6 (omega (arith, second .1)),
       )
 
-  number-ends : (i : ℕ) (z : List ℕ) → drop at s ≡ numeral i ++ z → 1 ≤ i → i ≤ 16 → NoDigit z → atomEnd (suc n) s d at ≡ At (at + length (numeral i))
+  pub number-ends : (i : ℕ) (z : List ℕ) → drop at s ≡ numeral i ++ z → 1 ≤ i → i ≤ 16 → NoDigit z
+      → atomEnd (suc n) s d at ≡ At (at + length (numeral i))
   unfolding numeral
   number-ends i z e l u stop = go (ltb i 10) refl e
     where
@@ -131,24 +132,28 @@ module _ (s : List ℕ) where
         → 3 * length (ruleText r) + 2 < n → ruleEnd n s d at ≡ At (at + length (ruleText r))
     rule-ends (term t) zero d at z e w a l = absurd (not-suc-le-zero l)
     rule-ends (term t) (suc n) d at z e w a l =
-        last-ends termEnd ruleEnd or-sign rule-step n s d at (termText t) (term-ends t n d at z e w (a .as-term) (omega arith)) z e (a .no-or)
+        last-ends termEnd ruleEnd or-sign rule-step n s d at (termText t)
+        (term-ends t n d at z e w (a .as-term) (omega arith)) z e (a .no-or)
     rule-ends (t or r) zero d at z e w a l = absurd (not-suc-le-zero l)
     rule-ends (t or r) (suc n) d at z e w a l =
         let m = length-append (termText t) (bar ∷ ruleText r) in
         more-ends termEnd ruleEnd or-sign rule-step n s d at (termText t)
-        (term-ends t n d at (bar ∷ (ruleText r ++ z)) (e ∙ append-assoc (termText t) (bar ∷ ruleText r) z) (w .0) (bar-follows (ruleText r ++ z)) (omega (arith, m)))
+        (term-ends t n d at (bar ∷ (ruleText r ++ z)) (e ∙ append-assoc (termText t) (bar ∷ ruleText r) z) (w .0)
+        (bar-follows (ruleText r ++ z)) (omega (arith, m)))
         (ruleText r) z e (λ f. rule-ends r n d (at + length (termText t) + 1) z f (w .1) a (omega (arith, m)))
 
-    term-ends : (t : Term) (n d at : ℕ) (z : List ℕ) → drop at s ≡ termText t ++ z → WellTerm t d → AfterTerm z
+    pub term-ends : (t : Term) (n d at : ℕ) (z : List ℕ) → drop at s ≡ termText t ++ z → WellTerm t d → AfterTerm z
         → 3 * length (termText t) + 1 < n → termEnd n s d at ≡ At (at + length (termText t))
     term-ends (atom b) zero d at z e w a l = absurd (not-suc-le-zero l)
     term-ends (atom b) (suc n) d at z e w a l =
-        last-ends atomEnd termEnd and-sign term-step n s d at (atomText b) (atom-ends b n d at z e w (a .no-digit) (omega arith)) z e (a .no-and)
+        last-ends atomEnd termEnd and-sign term-step n s d at (atomText b)
+        (atom-ends b n d at z e w (a .no-digit) (omega arith)) z e (a .no-and)
     term-ends (b and t) zero d at z e w a l = absurd (not-suc-le-zero l)
     term-ends (b and t) (suc n) d at z e w a l =
         let m = length-append (atomText b) (ampersand ∷ termText t) in
         more-ends atomEnd termEnd and-sign term-step n s d at (atomText b)
-        (atom-ends b n d at (ampersand ∷ (termText t ++ z)) (e ∙ append-assoc (atomText b) (ampersand ∷ termText t) z) (w .0) (ampersand-follows (termText t ++ z)) (omega (arith, m)))
+        (atom-ends b n d at (ampersand ∷ (termText t ++ z)) (e ∙ append-assoc (atomText b) (ampersand ∷ termText t) z) (w .0)
+        (ampersand-follows (termText t ++ z)) (omega (arith, m)))
         (termText t) z e (λ f. term-ends t n d (at + length (atomText b) + 1) z f (w .1) a (omega (arith, m)))
 
     pub atom-ends : (b : Atom) (n d at : ℕ) (z : List ℕ) → drop at s ≡ atomText b ++ z → WellAtom b d → NoDigit z

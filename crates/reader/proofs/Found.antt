@@ -9,7 +9,7 @@ use lib.Dec.{eqb, leb}
 use lib.ListN.{drop}
 use borrow.Author.Tests.{lt-ltb, le-ltb, eqb-true, eqb-false, leb-true}
 use Rattle.scheme.proofs.Tests.{and-true}
-use Rattle.rules.specs.Tree.{Rule, Term, Atom, term, _or_, atom, _and_, number, group}
+use Rattle.rules.specs.Tree.{term, _or_, atom, _and_, number, group}
 use Rattle.rules.specs.Text.{opening, closing, numeral, ruleText, termText, atomText, WellRule, WellTerm, WellAtom}
 use Rattle.reader.specs.declared.Kind.{Kind}
 use Rattle.reader.specs.declared.Read.{Read}
@@ -80,7 +80,8 @@ module _
         well = well-more (f .tree) (h .tree) d (f .well) (h .well);
         here =
             f .here ∙ ap (λ (z : List ℕ). part (f .tree) ++ z) (e ∙ ap (λ (z : List ℕ). byte ∷ z) (h .here))
-            ∙ sym (ap (λ (z : List ℕ). z ++ drop m s) (text-more (f .tree) (h .tree)) ∙ append-assoc (part (f .tree)) (byte ∷ text (h .tree)) (drop m s));
+            ∙ sym (append-assoc (part (f .tree)) (byte ∷ text (h .tree)) (drop m s))
+            ∙ ap (λ (z : List ℕ). z ++ drop m s) (sym (text-more (f .tree) (h .tree)));
       }
 
       go : (t : Bool) → eqb (tag (kindAt s q)) (tag k) ≡ t → Found text Well s d at (cond t (rest q) (At q))

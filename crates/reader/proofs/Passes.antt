@@ -1,15 +1,15 @@
 -- The passes over the bytes of a text, turn by turn, and what the pass over the numbers says of a rule.
 -- Assumes nothing.
-use mathlib.Core.Path.{_≡_, refl, sym, ap, ap₂, _∙_}
+use mathlib.Core.Path.{_≡_, refl, sym, ap, _∙_}
 use mathlib.Core.Bool.{Bool, true, false, cond, _&&_, and-true, and-false, and-assoc}
 use mathlib.Core.List.{List, [], _∷_, _++_, append-assoc, append-nil}
 use Prim.Native.Nat.{ℕ, _+_, _-_, _*_, _≤_, _<_}
 use native.Mathlib.Omega.{arith}
 use lib.Dec.{eqb, leb, ltb}
 use lib.ListN.{length, drop, getD, drop-of-length-le}
-use borrow.Author.Tests.{le-leb, lt-leb, ltb-true, ltb-false, leb-true, leb-false}
+use borrow.Author.Tests.{le-leb, lt-leb, ltb-true, ltb-false, leb-true}
 use Rattle.residue.proofs.Moduli.{drop-next}
-use Rattle.scheme.specs.Tests.{within, each}
+use Rattle.scheme.specs.Tests.{each}
 use Rattle.rules.specs.Tree.{Rule, Term, Atom, term, _or_, atom, _and_, number, group, choice, ruleNames, termNames, atomNames}
 use Rattle.rules.specs.Text.{bar, ampersand, opening, closing, numeral, ruleText, termText, atomText, WellRule, WellTerm, WellAtom, IsRule}
 use Rattle.rules.specs.Bytes.{occurs}
@@ -93,7 +93,8 @@ module _ (n : ℕ) where
   each-append [] ys = refl
   each-append (x ∷ xs) ys = ap (λ (t : Bool). leb x n && t) (each-append xs ys) ∙ sym (and-assoc (leb x n) (atMost xs) (atMost ys))
 
-  names-joined : (byte : ℕ) → (48 ≤ byte → byte ≤ 57 → ⊥) → (x y xs ys : List ℕ) → Names x xs → Names y ys → Names (x ++ (byte ∷ y)) (xs ++ ys)
+  names-joined : (byte : ℕ) → (48 ≤ byte → byte ≤ 57 → ⊥) → (x y xs ys : List ℕ) → Names x xs → Names y ys
+      → Names (x ++ (byte ∷ y)) (xs ++ ys)
   names-joined byte sign x y xs ys h k s stop =
       ap (upTo n 0) (append-assoc x (byte ∷ y) s)
       ∙ h (byte ∷ (y ++ s)) sign
@@ -139,12 +140,14 @@ module _ (n : ℕ) where
     rule-names : (r : Rule) (d : ℕ) → WellRule r d → Names (ruleText r) (ruleNames r)
     rule-names (term t) d w = term-names t d w
     rule-names (t or r) d w =
-        names-joined bar (λ l u. omega arith) (termText t) (ruleText r) (termNames t) (ruleNames r) (term-names t d (w .0)) (rule-names r d (w .1))
+        names-joined bar (λ l u. omega arith) (termText t) (ruleText r) (termNames t) (ruleNames r)
+        (term-names t d (w .0)) (rule-names r d (w .1))
 
     term-names : (t : Term) (d : ℕ) → WellTerm t d → Names (termText t) (termNames t)
     term-names (atom a) d w = atom-names a d w
     term-names (a and t) d w =
-        names-joined ampersand (λ l u. omega arith) (atomText a) (termText t) (atomNames a) (termNames t) (atom-names a d (w .0)) (term-names t d (w .1))
+        names-joined ampersand (λ l u. omega arith) (atomText a) (termText t) (atomNames a) (termNames t)
+        (atom-names a d (w .0)) (term-names t d (w .1))
 
     atom-names : (a : Atom) (d : ℕ) → WellAtom a d → Names (atomText a) (atomNames a)
     atom-names (number i) d w = names-number i (w .0) (w .1)
@@ -154,4 +157,5 @@ module _ (n : ℕ) where
   -- Of a rule the pass says whether each name is at most n.
   pub names-upTo : (t : List ℕ) (r : Rule) → IsRule t r → upTo n 0 t ≡ atMost (ruleNames r)
   unfolding upTo
-  names-upTo t r i = ap (upTo n 0) (i .text ∙ sym (append-nil (ruleText r))) ∙ rule-names r 8 (i .well) [] tt ∙ and-true (atMost (ruleNames r))
+  names-upTo t r i =
+      ap (upTo n 0) (i .text ∙ sym (append-nil (ruleText r))) ∙ rule-names r 8 (i .well) [] tt ∙ and-true (atMost (ruleNames r))

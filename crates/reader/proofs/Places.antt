@@ -25,7 +25,6 @@ use Rattle.reader.specs.Grammar.{
   isOpen,
   isClose,
   digit,
-  numberBy,
   numberEnd,
   after,
   ruleEnd,
@@ -77,31 +76,60 @@ not-digit k h = le-ltb (tag k) 2 (omega (arith, no-tag (2 ∷ 3 ∷ 4 ∷ 5 ∷ 
 pub not-atom : (k : Kind) → OneOf (1 ∷ 2 ∷ 3 ∷ 5 ∷ 6 ∷ []) (tagOf the-type k) → (eqb (tag k) 0 ≡ false) × (isOpen k ≡ false)
 not-atom k h = (not-tag (1 ∷ 2 ∷ 3 ∷ 5 ∷ 6 ∷ []) 0 tt k h, not-tag (1 ∷ 2 ∷ 3 ∷ 5 ∷ 6 ∷ []) 4 tt k h)
 
-pub further : (r : Read) (at q : ℕ) → at < q → Within (q + 1) r → Within at r
+-- What a reader of the code ensures of its answer r, with a measure of the text that is left.
+abbrev Answers : (ℕ → List ℕ → ℕ → ℕ → Read) → ℕ → List ℕ → ℕ → ℕ → Read → Type 0
+Answers reader measure s d at r = ((n : ℕ) → measure < n → r ≡ reader n s d at) × Within at r
+
+further : (r : Read) (at q : ℕ) → at < q → Within (q + 1) r → Within at r
 further (At p) at q h w = omega arith
 further Bad at q h w = tt
 
--- Parts joined by a sign, for a rule and for a term alike: inner reads a part, outer all of them, sign is the test of the sign. The inner
--- measure has w beside the length that is left. t is what the code's reader of a part answers.
+-- Parts joined by the sign K, for a rule and for a term alike: inner reads a part and answers t, outer reads all of them; w is what the outer
+-- measure has beside the length that is left.
 module _
     (inner outer : ℕ → List ℕ → ℕ → ℕ → Read)
-    (sign : Kind → Bool)
+    (K : Kind)
+    (real : T (not (eqb (tag K) 6)))
     (step : (n : ℕ) (s : List ℕ) (d at : ℕ) → outer (suc n) s d at
-    ≡ after (inner n s d at) (λ q. cond (sign (kindAt s q)) (outer n s d (q + 1)) (At q)))
-    (w : ℕ) (s : List ℕ) (d at : ℕ) (t : Read) (f : (n : ℕ) → 3 * (length s - at) + w < n → t ≡ inner n s d at) where
-  pub joined-bad : t ≡ Bad → (n : ℕ) → 3 * (length s - at) + (w + 1) < n → Bad ≡ outer n s d at
-  joined-bad e zero h = absurd (omega arith)
-  joined-bad e (suc m) h = rw (step, ← f m (omega arith), e)
+    ≡ after (inner n s d at) (λ q. cond (eqb (tag (kindAt s q)) (tag K)) (outer n s d (q + 1)) (At q)))
+    (w : ℕ)
+    {s : List ℕ}
+    {d at m : ℕ}
+    {t : Read}
+    (f : Answers inner m s d at t)
+    (less : m < 3 * (length s - at) + w) where
+  pub joined-bad : t ≡ Bad → Answers outer (3 * (length s - at) + w) s d at Bad
+  joined-bad e = (go, tt)
+    where
+      go : (n : ℕ) → 3 * (length s - at) + w < n → Bad ≡ outer n s d at
+      go zero h = absurd (omega arith)
+      go (suc n) h = rw (step, ← f .0 n (omega arith), e)
 
-  pub joined-last : (q : ℕ) → t ≡ At q → sign (kindAt s q) ≡ false → (n : ℕ) → 3 * (length s - at) + (w + 1) < n → At q ≡ outer n s d at
-  joined-last q e o zero h = absurd (omega arith)
-  joined-last q e o (suc m) h = rw (step, ← f m (omega arith), e, o)
+  -- What follows the part, k, is the sign or not.
+  module _ {q : ℕ} (e : t ≡ At q) {k : Kind} (here : k ≡ kindAt s q) where
+    past : at < q
+    past = subst (Within at) e (f .1)
 
-  pub joined-more : (q : ℕ) → t ≡ At q → sign (kindAt s q) ≡ true → at < q → q < length s → (r : Read)
-      → ((n : ℕ) → 3 * (length s - (q + 1)) + (w + 1) < n → r ≡ outer n s d (q + 1))
-      → (n : ℕ) → 3 * (length s - at) + (w + 1) < n → r ≡ outer n s d at
-  joined-more q e o hq hl r g zero h = absurd (omega arith)
-  joined-more q e o hq hl r g (suc m) h = rw (step, ← f m (omega arith), e, o) (g m (omega arith))
+    pub joined-last : eqb (tag k) (tag K) ≡ false → Answers outer (3 * (length s - at) + w) s d at (At q)
+    joined-last o = (go, past)
+      where
+        go : (n : ℕ) → 3 * (length s - at) + w < n → At q ≡ outer n s d at
+        go zero h = absurd (omega arith)
+        go (suc n) h = rw (step, ← f .0 n (omega arith), e, ← here, o)
+
+    pub joined-falls : k ≡ K → 3 * (length s - (q + 1)) + w < 3 * (length s - at) + w
+    joined-falls o = let l = seen-as s q k K here o real in let p = past in omega arith
+
+    pub joined-more : k ≡ K → {r : Read} → Answers outer (3 * (length s - (q + 1)) + w) s d (q + 1) r
+        → Answers outer (3 * (length s - at) + w) s d at r
+    joined-more o {r} g = (go, further r at q past (g .1))
+      where
+        same : eqb (tag (kindAt s q)) (tag K) ≡ true
+        same = eq-eqb (tag (kindAt s q)) (tag K) (ap tag (sym here ∙ o))
+
+        go : (n : ℕ) → 3 * (length s - at) + w < n → r ≡ outer n s d at
+        go zero h = absurd (omega arith)
+        go (suc n) h = let l = joined-falls o in rw (step, ← f .0 n (omega arith), e, same) (g .0 n (omega arith))
 
 pub rule-step : (n : ℕ) (s : List ℕ) (d at : ℕ) → ruleEnd (suc n) s d at
     ≡ after (termEnd n s d at) (λ q. cond (isOr (kindAt s q)) (ruleEnd n s d (q + 1)) (At q))
@@ -113,33 +141,6 @@ pub term-step : (n : ℕ) (s : List ℕ) (d at : ℕ) → termEnd (suc n) s d at
 unfolding termEnd
 term-step n s d at = refl
 
--- An atom; n is the fuel.
-module _ (s : List ℕ) (d at : ℕ) where
-  pub atom-number : (v : ℕ) (r : Read) → kindAt s at ≡ Digit v → r ≡ numberEnd s v at
-      → (n : ℕ) → 3 * (length s - at) < n → r ≡ atomEnd n s d at
-  unfolding atomEnd
-  atom-number v r k e zero h = absurd (omega arith)
-  atom-number v r k e (suc m) h = rw k e
-
-  pub atom-other : OneOf (1 ∷ 2 ∷ 3 ∷ 5 ∷ 6 ∷ []) (tagOf the-type (kindAt s at)) → (n : ℕ) → 3 * (length s - at) < n → Bad ≡ atomEnd n s d at
-  unfolding atomEnd
-  atom-other o zero h = absurd (omega arith)
-  atom-other o (suc m) h = let no = not-atom (kindAt s at) o in rw (no .0, no .1)
-
-  pub atom-deep : kindAt s at ≡ Open → d ≡ 0 → (n : ℕ) → 3 * (length s - at) < n → Bad ≡ atomEnd n s d at
-  unfolding atomEnd
-  atom-deep k z zero h = absurd (omega arith)
-  atom-deep k z (suc m) h = rw (k, eq-eqb d 0 z)
-
-  -- A group, whose rule the code's reader answers with t.
-  pub atom-group : kindAt s at ≡ Open → (d ≡ 0 → ⊥) → (t : Read) → ((n : ℕ) → 3 * (length s - (at + 1)) + 2 < n → t ≡ ruleEnd n s (d - 1) (at + 1))
-      → (x : Read) → after t (λ q. cond (isClose (kindAt s q)) (At (q + 1)) Bad) ≡ x → (n : ℕ) → 3 * (length s - at) < n → x ≡ atomEnd n s d at
-  unfolding atomEnd
-  atom-group k nz t f x e zero h = absurd (omega arith)
-  atom-group k nz t f x e (suc m) h =
-      let l : at < length s = seen-as s at (kindAt s at) Open refl k tt in
-      rw (k, ne-eqb d 0 nz, ← f m (omega arith)) (sym e)
-
 -- A number ends past its start.
 pub number-within : (s : List ℕ) (d at : ℕ) → Within at (numberEnd s d at)
 unfolding numberEnd
@@ -149,3 +150,51 @@ number-within s d at = go (isDigit (kindAt s (at + 1))) (eqb d 1 && leb (digit (
     go true true = omega arith
     go true false = tt
     go false fits = omega arith
+
+-- An atom, by what stands at its place.
+module _ (s : List ℕ) (d at : ℕ) {k : Kind} (here : k ≡ kindAt s at) where
+  pub atom-number : {v : ℕ} {r : Read} → k ≡ Digit v → r ≡ numberEnd s v at → Answers atomEnd (3 * (length s - at)) s d at r
+  unfolding atomEnd
+  atom-number {v} {r} o e = (go, rw e (number-within s v at))
+    where
+      go : (n : ℕ) → 3 * (length s - at) < n → r ≡ atomEnd n s d at
+      go zero h = absurd (omega arith)
+      go (suc n) h = rw (← here, o) e
+
+  pub atom-other : OneOf (1 ∷ 2 ∷ 3 ∷ 5 ∷ 6 ∷ []) (tagOf the-type k) → Answers atomEnd (3 * (length s - at)) s d at Bad
+  unfolding atomEnd
+  atom-other o = (go, tt)
+    where
+      go : (n : ℕ) → 3 * (length s - at) < n → Bad ≡ atomEnd n s d at
+      go zero h = absurd (omega arith)
+      go (suc n) h = let none = not-atom k o in rw (← here, none .0, none .1)
+
+  module _ (o : k ≡ Open) where
+    pub group-deep : d ≡ 0 → Answers atomEnd (3 * (length s - at)) s d at Bad
+    unfolding atomEnd
+    group-deep z = (go, tt)
+      where
+        go : (n : ℕ) → 3 * (length s - at) < n → Bad ≡ atomEnd n s d at
+        go zero h = absurd (omega arith)
+        go (suc n) h = rw (← here, o, eq-eqb d 0 z)
+
+    -- The rule in the group is answered with t.
+    module _ (nz : d ≡ 0 → ⊥) {t : Read} (f : Answers ruleEnd (3 * (length s - (at + 1)) + 2) s (d - 1) (at + 1) t) where
+      group : (r : Read) → after t (λ q. cond (isClose (kindAt s q)) (At (q + 1)) Bad) ≡ r
+          → (n : ℕ) → 3 * (length s - at) < n → r ≡ atomEnd n s d at
+      unfolding atomEnd
+      group r e zero h = absurd (omega arith)
+      group r e (suc n) h =
+          let l : at < length s = seen-as s at k Open here o tt in
+          rw (← here, o, ne-eqb d 0 nz, ← f .0 n (omega arith)) (sym e)
+
+      pub group-bad : t ≡ Bad → Answers atomEnd (3 * (length s - at)) s d at Bad
+      group-bad e = (group Bad (rw e), tt)
+
+      -- What follows the rule, c, closes the group or not.
+      module _ {q : ℕ} (e : t ≡ At q) {c : Kind} (next : c ≡ kindAt s q) where
+        pub group-left : isClose c ≡ false → Answers atomEnd (3 * (length s - at)) s d at Bad
+        group-left z = (group Bad (rw (e, ← next, z)), tt)
+
+        pub group-closed : c ≡ Close → Answers atomEnd (3 * (length s - at)) s d at (At (q + 1))
+        group-closed z = let w = subst (Within (at + 1)) e (f .1) in (group (At (q + 1)) (rw (e, ← next, z)), omega arith)

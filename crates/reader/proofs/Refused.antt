@@ -3,13 +3,13 @@
 use mathlib.Core.Path.{_≡_, refl, sym, ap, _∙_}
 use mathlib.Core.Bool.{Bool, true, false}
 use mathlib.Core.List.{List}
-use mathlib.Core.Logic.{_⊎_, inl, inr}
+use mathlib.Core.Logic.{inl, inr}
 use Prim.Native.Nat.{ℕ, suc, _+_, _≤_, _<_}
 use native.Mathlib.Omega.{arith}
 use lib.Dec.{leb}
 use lib.ListN.{length}
 use borrow.Author.Tests.{le-leb, lt-leb}
-use Rattle.scheme.specs.Tests.{each, unless, orElse}
+use Rattle.scheme.specs.Tests.{unless, orElse}
 use Rattle.rules.specs.Tree.{Rule, ruleNames}
 use Rattle.rules.specs.Text.{ampersand, bar, IsRule}
 use Rattle.rules.specs.Bytes.{occurs}
@@ -33,8 +33,10 @@ byNumbers named rows taken = orElse (unless named 14) (orElse (unless (leb rows 
 rule-by-bytes : (n : ℕ) (t : List ℕ) (r : Rule) → IsRule t r → ruleRefusal n r ≡ byBytes n t
 rule-by-bytes n t r i =
     ap (λ (x : Bool). byNumbers x (length (ruleNames r)) (ruleTakes r)) (sym (names-upTo n t r i))
-    ∙ ap (λ (x : ℕ). byNumbers (upTo n 0 t) x (ruleTakes r)) (names-joins r 8 (i .well) ∙ ap (λ (s : List ℕ). 1 + (occurs ampersand s + occurs bar s)) (sym (i .text)))
-    ∙ ap (λ (x : ℕ). byNumbers (upTo n 0 t) (1 + (occurs ampersand t + occurs bar t)) x) (takes-ands r 8 (i .well) ∙ ap (occurs ampersand) (sym (i .text)))
+    ∙ ap (λ (x : ℕ). byNumbers (upTo n 0 t) x (ruleTakes r))
+    (names-joins r 8 (i .well) ∙ ap (λ (s : List ℕ). 1 + (occurs ampersand s + occurs bar s)) (sym (i .text)))
+    ∙ ap (λ (x : ℕ). byNumbers (upTo n 0 t) (1 + (occurs ampersand t + occurs bar t)) x)
+    (takes-ands r 8 (i .well) ∙ ap (occurs ampersand) (sym (i .text)))
 
 -- The signs of a rule are few.
 pub joins-few : (t : List ℕ) {answer : Bool} → Recognised t answer → answer ≡ true

@@ -1,7 +1,8 @@
--- The answer of a call that does or refuses, by its refusal; and what a lent list holds after such a call.
+-- The answer of a call that does or refuses, by its refusal; and what a lent list holds after a call.
 -- Assumes nothing.
-use mathlib.Core.List.{List}
+use mathlib.Core.List.{List, _++_}
 use Prim.Native.Nat.{ℕ, zero, suc}
+use lib.ListN.{length, drop}
 use Rattle.scheme.specs.declared.Outcome.{Outcome}
 use Rattle.scheme.specs.declared.Outcome.the-variants.{Done, Refused}
 
@@ -14,3 +15,7 @@ outcomeAt (suc k) = Refused (suc k)
 abbrev pub leftAt : ℕ → List ℕ → List ℕ → List ℕ
 leftAt zero old new = new
 leftAt (suc k) old new = old
+
+-- "writes the first d and d times e, leaves the other places unchanged": new numbers over the first places of old.
+abbrev pub over : List ℕ → List ℕ → List ℕ
+over new old = new ++ drop (length new) old

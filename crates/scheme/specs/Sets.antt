@@ -6,7 +6,7 @@ use Prim.Native.Nat.{ℕ, _-_}
 use Rattle.linear.specs.Bits.{bit}
 use Rattle.linear.specs.Flat.{place}
 
--- "A set is a number: participant i is in it when bit i - 1 is one." Participants are counted from 1.
+-- "A set is a number: participant i is in it when bit i - 1 is one." Participants are counted from 1; labels of a checked scheme are.
 abbrev pub inSet : ℕ → ℕ → Bool
 inSet set i = bit set (i - 1)
 

@@ -8,7 +8,7 @@ use Rattle.scheme.specs.declared.Shape.{Shape}
 use Rattle.scheme.specs.Sets.{inSet}
 use Rattle.scheme.specs.Open.{Open}
 
--- "how many participants a set number names": of participants 1 to n, with rows or without.
+-- "how many participants a set number names": of participants 1 to n, with rows or without; bits from n up are not counted.
 abbrev pub size : ℕ → ℕ → ℕ
 size n set = count n (λ i. inSet set (i + 1))
 

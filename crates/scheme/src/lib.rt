@@ -20,6 +20,12 @@ pub enum Outcome {
     Refused(u32),
 }
 
+// What a call answers that makes a scheme in lent lists: its numbers, or a refusal with the paper's number.
+pub enum Made {
+    Scheme(Shape),
+    Refused(u32),
+}
+
 pub fn between(lo: usize, hi: usize, x: usize) -> bool
     ensures { λ r. ⌜ r ≡ within lo hi x ⌝ }
 {
@@ -59,7 +65,8 @@ pub fn all_below(p: u32, xs: &[u32]) -> bool
     true
 }
 
-fn numbers_refusal(s: Shape) -> u32
+// Refusals 1 to 4.
+pub fn numbers_refusal(s: Shape) -> u32
     ensures { λ r. ⌜ r ≡ numbersRefusal s ⌝ }
 {
     if !residue::is_modulus(s.p) {

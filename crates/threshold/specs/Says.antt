@@ -9,6 +9,7 @@ use Rattle.scheme.specs.Refusal.{thresholdRefusal}
 use Rattle.threshold.specs.declared.Verdict.{Verdict}
 use Rattle.threshold.specs.declared.Verdict.the-variants.{Yes, No, Refused}
 
+-- Labels and entries are lent for reading only and cannot change, and there is no result list.
 -- Yes: each set is open exactly if it has at least t + 1 participants. No: with the first set number that breaks it. Refused: the paper's
 -- number.
 unfoldable pub ThresholdSays : Shape → List ℕ → List ℕ → ℕ → Verdict → Type 0

@@ -96,7 +96,7 @@ fn first_breaking(s: Shape, labels: &[u32], entries: &[u32], t: u32) -> u32
 }
 
 // Is the scheme one with threshold t? Wrong answers that the contract rules out: rows counted where participants are meant; sets of t + 1
-// participants looked at alone; the empty set passed over.
+// participants looked at alone; a set that breaks it, but not the first.
 pub fn threshold(s: Shape, labels: &[u32], entries: &[u32], t: u32) -> Verdict
     ensures { λ a. ⌜ ThresholdSays s (now (labels .entry)) (now (entries .entry)) t a ⌝ }
 {

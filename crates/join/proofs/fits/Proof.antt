@@ -1,7 +1,8 @@
 -- `join::fits` meets its contract: each working list lent has its length, since d is at most 32 and e at most 12.
 -- Assumes nothing.
 use native.Mathlib.Omega.{arith}
-use Rattle.join.proofs.Columns.{area, part-length}
+use Rattle.tables.proofs.Parts.{part-length}
+use Rattle.join.proofs.Columns.{area}
 use Rattle.join.proofs.fits.Statement.{statement}
 use Rattle.join.proofs.fits.Tie as tie
 
@@ -91,8 +92,8 @@ fits-in-requires c κs =
     let n = area (s .args .d) (s .args .e) (q .1) (q .3) in (
       s .pre .0,
       (
+        q .0,
         q .1,
-        q .3,
         q .4,
         q .5,
         part-length _ 384 (c .before .before .before .before .before .before .before .before .before .before .before .table .result)

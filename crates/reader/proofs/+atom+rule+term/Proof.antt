@@ -1,15 +1,32 @@
--- `reader::rule`, `term` and `atom`, which call each other, meet their contracts. What falls: three times the length of the text that is left,
--- with 2 for a rule and 1 for a term.
+-- `reader::rule`, `term` and `atom`, which call each other, meet their contracts. What falls: three times the length of what is left, with
+-- 2 for a rule and 1 for a term.
 -- Assumes nothing.
-use borrow.Author.Needs.{needs}
 use Prim.Native.Nat.{ℕ, _+_, _*_, _-_, _<_}
-use lib.ListN.{length}
-use mathlib.Core.Path.{_≡_, refl, sym, ap, subst, _∙_}
 use native.Mathlib.Omega.{arith}
-use Rattle.reader.specs.Grammar.{kindAt, ruleEnd, termEnd, atomEnd, isOr, isAnd, Within}
-use Rattle.reader.proofs.Places.{seen-as, not-or, not-and, not-close, further, joined-bad, joined-last, joined-more, rule-step, term-step, atom-number, atom-other, atom-deep, atom-group, number-within}
+use lib.ListN.{length}
+use borrow.Author.Needs.{needs}
 use borrow.Fn.Kinds.{In}
 use borrow.Fn.PlainCycle.{Measures, is, falls, and}
+use Rattle.reader.specs.declared.Kind.the-variants.{Or, And}
+use Rattle.reader.specs.Grammar.{ruleEnd, termEnd, atomEnd}
+use Rattle.reader.proofs.Places.{
+  seen-as,
+  not-or,
+  not-and,
+  not-close,
+  joined-bad,
+  joined-last,
+  joined-falls,
+  joined-more,
+  rule-step,
+  term-step,
+  atom-number,
+  atom-other,
+  group-deep,
+  group-bad,
+  group-left,
+  group-closed,
+}
 use Rattle.reader.proofs.atom.Reads as atom
 use Rattle.reader.proofs.atom.Kinds as atom-kinds
 use Rattle.reader.proofs.+atom+rule+term.Lts-atom as atom-lts
@@ -67,13 +84,13 @@ atom-enum-known-k : (t : ℕ) → atom-lts.Need-enum-known-k (atom-claims t) (at
 atom-enum-known-k t c = search needs
 
 atom-number-end-requires : (t : ℕ) → atom-lts.Need-number-end-requires (atom-claims t) (atom-at t) atom.Post
-atom-number-end-requires t c κs = let l = seen-as _ _ _ _ (c .before .before .before .kind-at .ensures) (c .before .k .given .1) tt in l
+atom-number-end-requires t c κs = seen-as _ _ _ _ (c .before .before .before .kind-at .ensures) (c .before .k .given .1) tt
 
 atom-enum-told : (t : ℕ) → atom-lts.Need-enum-told (atom-claims t) (atom-at t) atom.Post
 atom-enum-told t c = search needs
 
 atom-returns : (t : ℕ) → atom-lts.Need-returns (atom-claims t) (atom-at t) atom.Post
-atom-returns t c = (atom-deep _ _ _ (sym (c .before .before .before .kind-at .ensures) ∙ c .before .enum-told .given .1) (c .if1 .taken), tt)
+atom-returns t c = group-deep _ _ _ (c .before .before .before .kind-at .ensures) (c .before .enum-told .given .1) (c .if1 .taken)
 
 atom-sub-rule : (t : ℕ) → atom-lts.Need-sub-rule (atom-claims t) (atom-at t) atom.Post
 atom-sub-rule t c = search needs
@@ -82,7 +99,8 @@ atom-add-rule : (t : ℕ) → atom-lts.Need-add-rule (atom-claims t) (atom-at t)
 atom-add-rule t c = let l = seen-as _ _ _ _ (c .before .before .before .kind-at .ensures) (c .before .enum-told .given .1) tt in omega arith
 
 atom-rule-requires : (t : ℕ) → atom-lts.Need-rule-requires (atom-claims t) (atom-at t) atom.Post
-atom-rule-requires t c κs = let l = seen-as _ _ _ _ (c .before .before .before .kind-at .ensures) (c .before .enum-told .given .1) tt in (omega arith, tt)
+atom-rule-requires t c κs =
+    let l = seen-as _ _ _ _ (c .before .before .before .kind-at .ensures) (c .before .enum-told .given .1) tt in (omega arith, tt)
 
 atom-enum-known-t : (t : ℕ) → atom-lts.Need-enum-known-t (atom-claims t) (atom-at t) atom.Post
 atom-enum-known-t t c = search needs
@@ -91,7 +109,11 @@ atom-enum-told-2 : (t : ℕ) → atom-lts.Need-enum-told-2 (atom-claims t) (atom
 atom-enum-told-2 t c = search needs
 
 atom-returns-2 : (t : ℕ) → atom-lts.Need-returns-2 (atom-claims t) (atom-at t) atom.Post
-atom-returns-2 t c = (atom-group (c .before .before .before .before .before .before .before .before .args .text .now) (c .before .before .before .before .before .before .before .before .args .depth) (c .before .before .before .before .before .before .before .before .args .at) (sym (c .before .before .before .before .before .before .kind-at .ensures) ∙ c .before .before .before .before .enum-told .given .1) (c .before .before .before .if1 .left) (c .before .before .rule .result) (c .before .before .rule .ensures .0) _ (rw (c .enum-told2 .given .1)), tt)
+atom-returns-2 t c =
+    let g = c .before .before in
+    group-bad _ _ _ (g .before .before .before .before .kind-at .ensures) (g .before .before .enum-told .given .1)
+    (g .before .if1 .left) (g .rule .ensures)
+    (c .enum-told2 .given .1)
 
 atom-kind-at-requires-2 : (t : ℕ) → atom-lts.Need-kind-at-requires-2 (atom-claims t) (atom-at t) atom.Post
 atom-kind-at-requires-2 t c κs = search needs
@@ -103,16 +125,25 @@ atom-add-t14 : (t : ℕ) → atom-lts.Need-add-t14 (atom-claims t) (atom-at t) a
 atom-add-t14 t c = let l = seen-as _ _ _ _ (c .before .before .kind-at2 .ensures) (c .enum-told3 .given .1) tt in omega arith
 
 atom-returns-3 : (t : ℕ) → atom-lts.Need-returns-3 (atom-claims t) (atom-at t) atom.Post
-atom-returns-3 t c = (atom-number _ _ _ _ _ (sym (c .before .before .before .before .kind-at .ensures) ∙ c .before .before .k .given .1) (c .number-end .ensures), rw (c .number-end .ensures) (number-within _ _ _))
+atom-returns-3 t c =
+    atom-number _ _ _ (c .before .before .before .before .kind-at .ensures) (c .before .before .k .given .1) (c .number-end .ensures)
 
 atom-returns-4 : (t : ℕ) → atom-lts.Need-returns-4 (atom-claims t) (atom-at t) atom.Post
-atom-returns-4 t c = (atom-group (c .before .before .before .before .before .before .before .before .before .before .before .before .args .text .now) (c .before .before .before .before .before .before .before .before .before .before .before .before .args .depth) (c .before .before .before .before .before .before .before .before .before .before .before .before .args .at) (sym (c .before .before .before .before .before .before .before .before .before .before .kind-at .ensures) ∙ c .before .before .before .before .before .before .before .before .enum-told .given .1) (c .before .before .before .before .before .before .before .if1 .left) (c .before .before .before .before .before .before .rule .result) (c .before .before .before .before .before .before .rule .ensures .0) _ (rw (c .before .before .before .before .t .given .1, ← c .before .before .kind-at2 .ensures, c .enum-told3 .given .1)), let w = subst (Within (c .before .before .before .before .before .before .before .before .before .before .before .before .args .at + 1)) (c .before .before .before .before .t .given .1) (c .before .before .before .before .before .before .rule .ensures .1) in omega arith)
+atom-returns-4 t c =
+    let g = c .before .before .before .before .before .before in
+    group-closed _ _ _ (g .before .before .before .before .kind-at .ensures) (g .before .before .enum-told .given .1)
+    (g .before .if1 .left) (g .rule .ensures)
+    (c .before .before .before .before .t .given .1) (c .before .before .kind-at2 .ensures) (c .enum-told3 .given .1)
 
 atom-returns-5 : (t : ℕ) → atom-lts.Need-returns-5 (atom-claims t) (atom-at t) atom.Post
-atom-returns-5 t c = (atom-group (c .before .before .before .before .before .before .before .before .before .before .before .args .text .now) (c .before .before .before .before .before .before .before .before .before .before .before .args .depth) (c .before .before .before .before .before .before .before .before .before .before .before .args .at) (sym (c .before .before .before .before .before .before .before .before .before .kind-at .ensures) ∙ c .before .before .before .before .before .before .before .enum-told .given .1) (c .before .before .before .before .before .before .if1 .left) (c .before .before .before .before .before .rule .result) (c .before .before .before .before .before .rule .ensures .0) _ (rw (c .before .before .before .t .given .1, ← c .before .kind-at2 .ensures, not-close (c .before .kind-at2 .result) (c .match3 .keys2))), tt)
+atom-returns-5 t c =
+    let g = c .before .before .before .before .before in
+    group-left _ _ _ (g .before .before .before .before .kind-at .ensures) (g .before .before .enum-told .given .1)
+    (g .before .if1 .left) (g .rule .ensures)
+    (c .before .before .before .t .given .1) (c .before .kind-at2 .ensures) (not-close (c .before .kind-at2 .result) (c .match3 .keys2))
 
 atom-returns-6 : (t : ℕ) → atom-lts.Need-returns-6 (atom-claims t) (atom-at t) atom.Post
-atom-returns-6 t c = (atom-other _ _ _ (rw (← c .before .kind-at .ensures) (c .match .keys3)), tt)
+atom-returns-6 t c = atom-other _ _ _ (c .before .kind-at .ensures) (c .match .keys3)
 
 rule-term-requires : (t : ℕ) → rule-lts.Need-term-requires (rule-claims t) (rule-at t) rule.Post
 rule-term-requires t c κs = search needs
@@ -124,7 +155,8 @@ rule-enum-told : (t : ℕ) → rule-lts.Need-enum-told (rule-claims t) (rule-at 
 rule-enum-told t c = search needs
 
 rule-returns : (t : ℕ) → rule-lts.Need-returns (rule-claims t) (rule-at t) rule.Post
-rule-returns t c = (joined-bad termEnd ruleEnd isOr rule-step 1 (c .before .before .before .before .args .text .now) (c .before .before .before .before .args .depth) (c .before .before .before .before .args .at) (c .before .before .term .result) (c .before .before .term .ensures .0) (c .enum-told .given .1), tt)
+rule-returns t c =
+    joined-bad termEnd ruleEnd Or tt rule-step 2 (c .before .before .term .ensures) (omega arith) (c .enum-told .given .1)
 
 rule-kind-at-requires : (t : ℕ) → rule-lts.Need-kind-at-requires (rule-claims t) (rule-at t) rule.Post
 rule-kind-at-requires t c κs = search needs
@@ -136,13 +168,21 @@ rule-add-rule : (t : ℕ) → rule-lts.Need-add-rule (rule-claims t) (rule-at t)
 rule-add-rule t c = let l = seen-as _ _ _ _ (c .before .before .kind-at .ensures) (c .enum-told2 .given .1) tt in omega arith
 
 rule-rule-requires : (t : ℕ) → rule-lts.Need-rule-requires (rule-claims t) (rule-at t) rule.Post
-rule-rule-requires t c κs = let l = seen-as _ _ _ _ (c .before .before .kind-at .ensures) (c .enum-told2 .given .1) tt in let w = (subst (Within (c .before .before .before .before .before .before .before .before .args .at)) (c .before .before .before .before .t .given .1) (c .before .before .before .before .before .before .term .ensures .1)) in (omega arith, tt)
+rule-rule-requires t c κs =
+    let l = joined-falls termEnd ruleEnd Or tt rule-step 2 (c .before .before .before .before .before .before .term .ensures) (omega arith)
+    (c .before .before .before .before .t .given .1) (c .before .before .kind-at .ensures) (c .enum-told2 .given .1) in
+    (omega arith, tt)
 
 rule-returns-2 : (t : ℕ) → rule-lts.Need-returns-2 (rule-claims t) (rule-at t) rule.Post
-rule-returns-2 t c = (joined-more termEnd ruleEnd isOr rule-step 1 (c .before .before .before .before .before .before .before .before .before .args .text .now) (c .before .before .before .before .before .before .before .before .before .args .depth) (c .before .before .before .before .before .before .before .before .before .args .at) (c .before .before .before .before .before .before .before .term .result) (c .before .before .before .before .before .before .before .term .ensures .0) (c .before .before .before .before .before .t .given .0 .0) (c .before .before .before .before .before .t .given .1) (rw (← c .before .before .before .kind-at .ensures, c .before .enum-told2 .given .1)) (subst (Within (c .before .before .before .before .before .before .before .before .before .args .at)) (c .before .before .before .before .before .t .given .1) (c .before .before .before .before .before .before .before .term .ensures .1)) (seen-as _ _ _ _ (c .before .before .before .kind-at .ensures) (c .before .enum-told2 .given .1) tt) (c .rule .result) (c .rule .ensures .0), further (c .rule .result) _ _ (subst (Within (c .before .before .before .before .before .before .before .before .before .args .at)) (c .before .before .before .before .before .t .given .1) (c .before .before .before .before .before .before .before .term .ensures .1)) (c .rule .ensures .1))
+rule-returns-2 t c =
+    joined-more termEnd ruleEnd Or tt rule-step 2 (c .before .before .before .before .before .before .before .term .ensures) (omega arith)
+    (c .before .before .before .before .before .t .given .1) (c .before .before .before .kind-at .ensures) (c .before .enum-told2 .given .1)
+    (c .rule .ensures)
 
 rule-returns-3 : (t : ℕ) → rule-lts.Need-returns-3 (rule-claims t) (rule-at t) rule.Post
-rule-returns-3 t c = (joined-last termEnd ruleEnd isOr rule-step 1 (c .before .before .before .before .before .before .before .args .text .now) (c .before .before .before .before .before .before .before .args .depth) (c .before .before .before .before .before .before .before .args .at) (c .before .before .before .before .before .term .result) (c .before .before .before .before .before .term .ensures .0) (c .before .before .before .t .given .0 .0) (c .before .before .before .t .given .1) (rw (← c .before .kind-at .ensures) (not-or (c .before .kind-at .result) (c .match2 .keys2))), (subst (Within (c .before .before .before .before .before .before .before .args .at)) (c .before .before .before .t .given .1) (c .before .before .before .before .before .term .ensures .1)))
+rule-returns-3 t c =
+    joined-last termEnd ruleEnd Or tt rule-step 2 (c .before .before .before .before .before .term .ensures) (omega arith)
+    (c .before .before .before .t .given .1) (c .before .kind-at .ensures) (not-or (c .before .kind-at .result) (c .match2 .keys2))
 
 term-atom-requires : (t : ℕ) → term-lts.Need-atom-requires (term-claims t) (term-at t) term.Post
 term-atom-requires t c κs = search needs
@@ -154,7 +194,8 @@ term-enum-told : (t : ℕ) → term-lts.Need-enum-told (term-claims t) (term-at 
 term-enum-told t c = search needs
 
 term-returns : (t : ℕ) → term-lts.Need-returns (term-claims t) (term-at t) term.Post
-term-returns t c = (joined-bad atomEnd termEnd isAnd term-step 0 (c .before .before .before .before .args .text .now) (c .before .before .before .before .args .depth) (c .before .before .before .before .args .at) (c .before .before .atom .result) (λ n h. c .before .before .atom .ensures .0 n (omega arith)) (c .enum-told .given .1), tt)
+term-returns t c =
+    joined-bad atomEnd termEnd And tt term-step 1 (c .before .before .atom .ensures) (omega arith) (c .enum-told .given .1)
 
 term-kind-at-requires : (t : ℕ) → term-lts.Need-kind-at-requires (term-claims t) (term-at t) term.Post
 term-kind-at-requires t c κs = search needs
@@ -166,13 +207,21 @@ term-add-term : (t : ℕ) → term-lts.Need-add-term (term-claims t) (term-at t)
 term-add-term t c = let l = seen-as _ _ _ _ (c .before .before .kind-at .ensures) (c .enum-told2 .given .1) tt in omega arith
 
 term-term-requires : (t : ℕ) → term-lts.Need-term-requires (term-claims t) (term-at t) term.Post
-term-term-requires t c κs = let l = seen-as _ _ _ _ (c .before .before .kind-at .ensures) (c .enum-told2 .given .1) tt in let w = (subst (Within (c .before .before .before .before .before .before .before .before .args .at)) (c .before .before .before .before .t .given .1) (c .before .before .before .before .before .before .atom .ensures .1)) in (omega arith, tt)
+term-term-requires t c κs =
+    let l = joined-falls atomEnd termEnd And tt term-step 1 (c .before .before .before .before .before .before .atom .ensures) (omega arith)
+    (c .before .before .before .before .t .given .1) (c .before .before .kind-at .ensures) (c .enum-told2 .given .1) in
+    (omega arith, tt)
 
 term-returns-2 : (t : ℕ) → term-lts.Need-returns-2 (term-claims t) (term-at t) term.Post
-term-returns-2 t c = (joined-more atomEnd termEnd isAnd term-step 0 (c .before .before .before .before .before .before .before .before .before .args .text .now) (c .before .before .before .before .before .before .before .before .before .args .depth) (c .before .before .before .before .before .before .before .before .before .args .at) (c .before .before .before .before .before .before .before .atom .result) (λ n h. c .before .before .before .before .before .before .before .atom .ensures .0 n (omega arith)) (c .before .before .before .before .before .t .given .0 .0) (c .before .before .before .before .before .t .given .1) (rw (← c .before .before .before .kind-at .ensures, c .before .enum-told2 .given .1)) (subst (Within (c .before .before .before .before .before .before .before .before .before .args .at)) (c .before .before .before .before .before .t .given .1) (c .before .before .before .before .before .before .before .atom .ensures .1)) (seen-as _ _ _ _ (c .before .before .before .kind-at .ensures) (c .before .enum-told2 .given .1) tt) (c .term .result) (c .term .ensures .0), further (c .term .result) _ _ (subst (Within (c .before .before .before .before .before .before .before .before .before .args .at)) (c .before .before .before .before .before .t .given .1) (c .before .before .before .before .before .before .before .atom .ensures .1)) (c .term .ensures .1))
+term-returns-2 t c =
+    joined-more atomEnd termEnd And tt term-step 1 (c .before .before .before .before .before .before .before .atom .ensures) (omega arith)
+    (c .before .before .before .before .before .t .given .1) (c .before .before .before .kind-at .ensures) (c .before .enum-told2 .given .1)
+    (c .term .ensures)
 
 term-returns-3 : (t : ℕ) → term-lts.Need-returns-3 (term-claims t) (term-at t) term.Post
-term-returns-3 t c = (joined-last atomEnd termEnd isAnd term-step 0 (c .before .before .before .before .before .before .before .args .text .now) (c .before .before .before .before .before .before .before .args .depth) (c .before .before .before .before .before .before .before .args .at) (c .before .before .before .before .before .atom .result) (λ n h. c .before .before .before .before .before .atom .ensures .0 n (omega arith)) (c .before .before .before .t .given .0 .0) (c .before .before .before .t .given .1) (rw (← c .before .kind-at .ensures) (not-and (c .before .kind-at .result) (c .match2 .keys2))), (subst (Within (c .before .before .before .before .before .before .before .args .at)) (c .before .before .before .t .given .1) (c .before .before .before .before .before .atom .ensures .1)))
+term-returns-3 t c =
+    joined-last atomEnd termEnd And tt term-step 1 (c .before .before .before .before .before .atom .ensures) (omega arith)
+    (c .before .before .before .t .given .1) (c .before .kind-at .ensures) (not-and (c .before .kind-at .result) (c .match2 .keys2))
 
 pub +atom+rule+term-spec : {M : Type 1} → statement M
 +atom+rule+term-spec = close μ-atom μ-rule μ-term (λ t. atom-lts.spec (atom-claims t) (atom-at t) atom.Post

@@ -1,12 +1,10 @@
 -- `reader::class` meets its contract.
 -- Assumes nothing.
-use borrow.Author.Tests.{le-leb, lt-leb, ne-eqb}
 use native.Mathlib.Omega.{arith}
+use borrow.Author.Tests.{le-leb, lt-leb, ne-eqb}
 use Rattle.reader.specs.Grammar.{classOf}
 use Rattle.reader.proofs.class.Statement.{statement}
 use Rattle.reader.proofs.class.Tie as tie
-use Rattle.reader.proofs.class.Reads as reads
-use Rattle.reader.proofs.class.Lts as lts
 
 returns : tie.Need-returns
 unfolding classOf
@@ -36,13 +34,24 @@ returns-7 : tie.Need-returns-7
 unfolding classOf
 returns-7 c =
     let r = c .before .match .rest in
-    simp (lt-leb 49 (c .before .before .args .b) (omega arith), ne-eqb _ _ (r .0 .0 .0 .0 .1), ne-eqb _ _ (r .0 .0 .0 .1), ne-eqb _ _ (r .0 .0 .1), ne-eqb _ _ (r .0 .1), ne-eqb _ _ (r .1))
+    simp (
+      lt-leb 49 (c .before .before .args .b) (omega arith),
+      ne-eqb _ _ (r .0 .0 .0 .0 .1),
+      ne-eqb _ _ (r .0 .0 .0 .1),
+      ne-eqb _ _ (r .0 .0 .1),
+      ne-eqb _ _ (r .0 .1),
+      ne-eqb _ _ (r .1),
+    )
 
 returns-8 : tie.Need-returns-8
 unfolding classOf
 returns-8 c =
     let r = c .before .before .match .rest in
-    simp (le-leb 49 (c .before .before .before .args .b) (omega arith), lt-leb (c .before .before .before .args .b) 57 (omega arith), ne-eqb _ _ (r .0 .0 .0 .0 .1), ne-eqb _ _ (r .0 .0 .0 .1), ne-eqb _ _ (r .0 .0 .1), ne-eqb _ _ (r .0 .1), ne-eqb _ _ (r .1))
+    simp (
+      le-leb 49 (c .before .before .before .args .b) (omega arith),
+      lt-leb (c .before .before .before .args .b) 57 (omega arith),
+      ne-eqb _ _ (r .0 .0 .0 .1),
+    )
 
 pub class-spec : {M : Type 1} → statement M
 class-spec = tie.close (tie.spec returns returns-2 returns-3 returns-4 returns-5 returns-6 returns-7 returns-8)

@@ -1,13 +1,10 @@
 -- `reader::is_rule` meets its contract.
 -- Assumes nothing.
-use Rattle.reader.proofs.Whole.{too-short, too-long, unread, read-to}
 use native.Mathlib.Omega.{arith}
 use borrow.Author.Needs.{needs}
+use Rattle.reader.proofs.Whole.{too-short, too-long, unread, read-to}
 use Rattle.reader.proofs.is_rule.Statement.{statement}
 use Rattle.reader.proofs.is_rule.Tie as tie
-use Rattle.reader.proofs.is_rule.Reads as reads
-use Rattle.reader.proofs.is_rule.Lts as lts
-use Rattle.reader.proofs.rule.Reads as rule-reads
 
 returns : tie.Need-returns
 returns c = too-short (c .before .before .args .text .now) (c .if1 .taken)

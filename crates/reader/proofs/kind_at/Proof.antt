@@ -2,13 +2,9 @@
 -- Assumes nothing.
 use borrow.Author.Needs.{needs}
 use borrow.Author.Tests.{lt-ltb, le-ltb}
-use mathlib.Core.Path.{_∙_, sym, ap}
 use Rattle.reader.specs.Grammar.{kindAt}
 use Rattle.reader.proofs.kind_at.Statement.{statement}
 use Rattle.reader.proofs.kind_at.Tie as tie
-use Rattle.reader.proofs.kind_at.Reads as reads
-use Rattle.reader.proofs.kind_at.Lts as lts
-use Rattle.reader.proofs.class.Reads as class-reads
 
 shared-slice-read-b : tie.Need-shared-slice-read-b
 shared-slice-read-b c = search needs

@@ -2,16 +2,13 @@
 -- Assumes nothing.
 use mathlib.Core.Path.{_≡_, refl}
 use Prim.Native.Nat.{_-_, _≤_}
+use native.Mathlib.Omega.{arith}
 use lib.ListN.{length, drop}
+use borrow.Author.Needs.{needs}
 use Rattle.reader.specs.Scan.{upTo}
 use Rattle.reader.proofs.Passes.{upTo-stop, upTo-go, upTo-end}
-use borrow.Author.Needs.{needs}
-use native.Mathlib.Omega.{arith}
 use Rattle.reader.proofs.named.Statement.{statement}
 use Rattle.reader.proofs.named.Tie as tie
-use Rattle.reader.proofs.named.Reads as reads
-use Rattle.reader.proofs.named.Lts as lts
-use Rattle.reader.proofs.read_on.Reads as read-on-reads
 
 abbrev Inv-loop : tie.InvT-loop
 Inv-loop text n most i₀ v₀ i v = (i ≤ length text) × (most ≡ n) × (v ≤ n) × (upTo n v (drop i text) ≡ upTo n 0 text)

@@ -2,14 +2,10 @@
 -- Assumes nothing.
 use borrow.Author.Needs.{needs}
 use borrow.Author.Tests.{eq-eqb, ne-eqb, le-leb, lt-leb}
-use mathlib.Core.Path.{_∙_, sym, ap}
 use Rattle.reader.specs.Grammar.{numberEnd}
 use Rattle.reader.proofs.Places.{not-digit}
 use Rattle.reader.proofs.number_end.Statement.{statement}
 use Rattle.reader.proofs.number_end.Tie as tie
-use Rattle.reader.proofs.number_end.Reads as reads
-use Rattle.reader.proofs.number_end.Lts as lts
-use Rattle.reader.proofs.kind_at.Reads as kind-at-reads
 
 add-kind-at : tie.Need-add-kind-at
 add-kind-at c = search needs
@@ -42,11 +38,21 @@ returns-2 c = rw (← c .before .before .before .kind-at .ensures, c .before .en
 
 returns-3 : tie.Need-returns-3
 unfolding numberEnd
-returns-3 c = rw (← c .before .before .before .before .before .kind-at .ensures, c .before .before .before .k .given .1, eq-eqb _ _ (c .before .if2 .taken), le-leb _ _ (c .if3 .taken))
+returns-3 c = rw (
+  ← c .before .before .before .before .before .kind-at .ensures,
+  c .before .before .before .k .given .1,
+  eq-eqb _ _ (c .before .if2 .taken),
+  le-leb _ 6 (c .if3 .taken),
+)
 
 returns-4 : tie.Need-returns-4
 unfolding numberEnd
-returns-4 c = rw (← c .before .before .before .before .before .kind-at .ensures, c .before .before .before .k .given .1, eq-eqb _ _ (c .before .if2 .taken), lt-leb _ _ (c .if3 .left))
+returns-4 c = rw (
+  ← c .before .before .before .before .before .kind-at .ensures,
+  c .before .before .before .k .given .1,
+  eq-eqb _ _ (c .before .if2 .taken),
+  lt-leb _ 6 (c .if3 .left),
+)
 
 returns-5 : tie.Need-returns-5
 unfolding numberEnd

@@ -2,16 +2,13 @@
 -- Assumes nothing.
 use mathlib.Core.Path.{_≡_}
 use Prim.Native.Nat.{_+_, _-_, _≤_}
+use native.Mathlib.Omega.{arith}
 use lib.ListN.{length, drop}
+use borrow.Author.Needs.{needs}
 use Rattle.rules.specs.Bytes.{occurs}
 use Rattle.reader.proofs.Passes.{occurs-go, occurs-end}
-use borrow.Author.Needs.{needs}
-use native.Mathlib.Omega.{arith}
 use Rattle.reader.proofs.occurrences.Statement.{statement}
 use Rattle.reader.proofs.occurrences.Tie as tie
-use Rattle.reader.proofs.occurrences.Reads as reads
-use Rattle.reader.proofs.occurrences.Lts as lts
-use Rattle.reader.proofs.one_if_same.Reads as one-if-same-reads
 
 abbrev Inv-loop : tie.InvT-loop
 Inv-loop text b i₀ n₀ i n = (i ≤ length text) × (n ≤ i) × (n + occurs b (drop i text) ≡ occurs b text)

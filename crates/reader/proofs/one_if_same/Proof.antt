@@ -1,12 +1,9 @@
 -- `reader::one_if_same` meets its contract.
 -- Assumes nothing.
-use borrow.Author.Tests.{eq-eqb, ne-eqb}
-use borrow.Author.Needs.{needs}
 use native.Mathlib.Omega.{arith}
+use borrow.Author.Tests.{eq-eqb, ne-eqb}
 use Rattle.reader.proofs.one_if_same.Statement.{statement}
 use Rattle.reader.proofs.one_if_same.Tie as tie
-use Rattle.reader.proofs.one_if_same.Reads as reads
-use Rattle.reader.proofs.one_if_same.Lts as lts
 
 returns : tie.Need-returns
 returns c = (simp (eq-eqb _ _ (c .if1 .taken)), omega arith)

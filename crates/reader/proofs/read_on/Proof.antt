@@ -1,12 +1,9 @@
 -- `reader::read_on` meets its contract.
 -- Assumes nothing.
-use Rattle.reader.proofs.Passes.{further-low, further-high, further-digit}
-use native.Mathlib.Omega.{arith}
 use borrow.Author.Needs.{needs}
+use Rattle.reader.proofs.Passes.{further-low, further-high, further-digit}
 use Rattle.reader.proofs.read_on.Statement.{statement}
 use Rattle.reader.proofs.read_on.Tie as tie
-use Rattle.reader.proofs.read_on.Reads as reads
-use Rattle.reader.proofs.read_on.Lts as lts
 
 returns : tie.Need-returns
 returns c = further-low _ _ (c .if1 .taken)

@@ -1,17 +1,12 @@
 -- `reader::refusal` meets its contract.
 -- Assumes nothing.
+use native.Mathlib.Omega.{arith}
 use borrow.Author.Tests.{not-true, not-false}
+use borrow.Author.Needs.{needs}
 use Rattle.scheme.proofs.Tests.{failed, passed}
 use Rattle.reader.proofs.Refused.{no-rule, above-n, joins-few, many-rows, many-columns, nothing}
-use native.Mathlib.Omega.{arith}
-use borrow.Author.Needs.{needs}
 use Rattle.reader.proofs.refusal.Statement.{statement}
 use Rattle.reader.proofs.refusal.Tie as tie
-use Rattle.reader.proofs.refusal.Reads as reads
-use Rattle.reader.proofs.refusal.Lts as lts
-use Rattle.reader.proofs.is_rule.Reads as is-rule-reads
-use Rattle.reader.proofs.named.Reads as named-reads
-use Rattle.reader.proofs.occurrences.Reads as occurrences-reads
 
 is-rule-requires : tie.Need-is-rule-requires
 is-rule-requires c κs = search needs
@@ -23,7 +18,9 @@ named-requires : tie.Need-named-requires
 named-requires c κs = search needs
 
 returns-2 : tie.Need-returns-2
-returns-2 c = above-n _ _ (c .before .before .before .is-rule .ensures) (not-false _ (c .before .before .if1 .left)) (failed (c .before .named .ensures) (c .if2 .taken))
+returns-2 c =
+    above-n _ _ (c .before .before .before .is-rule .ensures) (not-false _ (c .before .before .if1 .left))
+    (failed (c .before .named .ensures) (c .if2 .taken))
 
 occurrences-requires : tie.Need-occurrences-requires
 occurrences-requires c κs = search needs
@@ -33,22 +30,31 @@ occurrences-requires-2 c κs = search needs
 
 add-if3 : tie.Need-add-if3
 add-if3 c =
-    let few = joins-few _ (c .before .before .before .before .before .is-rule .ensures) (not-false _ (c .before .before .before .before .if1 .left)) (c .before .occurrences .ensures) (c .occurrences2 .ensures) in record { fits = omega arith }
+    let u = c .before .before .before in
+    let few = joins-few _ (u .before .before .is-rule .ensures) (not-false _ (u .before .if1 .left))
+    (c .before .occurrences .ensures) (c .occurrences2 .ensures) in
+    record { fits = omega arith }
 
 returns-3 : tie.Need-returns-3
 returns-3 c =
-    many-rows _ _ (c .before .before .before .before .before .before .is-rule .ensures) (not-false _ (c .before .before .before .before .before .if1 .left))
-    (c .before .before .occurrences .ensures) (c .before .occurrences2 .ensures) (passed (c .before .before .before .before .named .ensures) (c .before .before .before .if2 .left)) (c .if3 .taken)
+    let u = c .before .before .before .before in
+    many-rows _ _ (u .before .before .is-rule .ensures) (not-false _ (u .before .if1 .left))
+    (c .before .before .occurrences .ensures) (c .before .occurrences2 .ensures)
+    (passed (u .named .ensures) (c .before .before .before .if2 .left)) (c .if3 .taken)
 
 returns-4 : tie.Need-returns-4
 returns-4 c =
-    many-columns _ _ (c .before .before .before .before .before .before .before .is-rule .ensures) (not-false _ (c .before .before .before .before .before .before .if1 .left))
-    (c .before .before .before .occurrences .ensures) (c .before .before .occurrences2 .ensures) (passed (c .before .before .before .before .before .named .ensures) (c .before .before .before .before .if2 .left)) (c .before .if3 .left) (c .if4 .taken)
+    let u = c .before .before .before .before .before in
+    many-columns _ _ (u .before .before .is-rule .ensures) (not-false _ (u .before .if1 .left))
+    (c .before .before .before .occurrences .ensures) (c .before .before .occurrences2 .ensures)
+    (passed (u .named .ensures) (c .before .before .before .before .if2 .left)) (c .before .if3 .left) (c .if4 .taken)
 
 returns-5 : tie.Need-returns-5
 returns-5 c =
-    nothing _ _ (c .before .before .before .before .before .before .before .is-rule .ensures) (not-false _ (c .before .before .before .before .before .before .if1 .left))
-    (c .before .before .before .occurrences .ensures) (c .before .before .occurrences2 .ensures) (passed (c .before .before .before .before .before .named .ensures) (c .before .before .before .before .if2 .left)) (c .before .if3 .left) (c .if4 .left)
+    let u = c .before .before .before .before .before in
+    nothing _ _ (u .before .before .is-rule .ensures) (not-false _ (u .before .if1 .left))
+    (c .before .before .before .occurrences .ensures) (c .before .before .occurrences2 .ensures)
+    (passed (u .named .ensures) (c .before .before .before .before .if2 .left)) (c .before .if3 .left) (c .if4 .left)
 
 pub refusal-spec : {M : Type 1} → statement M
 refusal-spec =
