@@ -12,7 +12,7 @@ use Rattle.algebra.proofs.Cases.{below-suc, lt-or-ge}
 use Rattle.lists.proofs.Fill.{Filled}
 use Rattle.lists.proofs.Store.{row-fits}
 use Rattle.linear.specs.Flat.{place}
-use Rattle.rule.specs.Says.{over}
+use Rattle.scheme.specs.Outcome.{over}
 use Rattle.rule.specs.Copied.{Copied}
 
 -- A loop that has come to the end has filled all.

@@ -33,9 +33,10 @@ use Rattle.rules.proofs.Signs.{names-joins}
 use Rattle.reader.specs.Refusal.{ruleRefusal, TextRefusal}
 use Rattle.reader.proofs.OneTree.{one-tree}
 use Rattle.reader.proofs.Refused.{text-refusal-one}
-use Rattle.rule.specs.declared.Built.{Built}
-use Rattle.rule.specs.declared.Built.the-variants.{Scheme, Refused}
-use Rattle.rule.specs.Says.{frontRefusal, over, shapeOf, RuleSays}
+use Rattle.scheme.specs.declared.Made.{Made}
+use Rattle.scheme.specs.declared.Made.the-variants.{Scheme, Refused}
+use Rattle.scheme.specs.Outcome.{over}
+use Rattle.rule.specs.Says.{frontRefusal, shapeOf, RuleSays}
 use Rattle.rule.specs.Copied.{Written}
 use Rattle.rule.proofs.Scheme.{rule-fits, entries-size, entries-below}
 
@@ -98,7 +99,7 @@ module _ (p n : ℕ) (t labels entries : List ℕ) where
   not-refused r k e i h (inr a) = omega (arith, text-refusal-one n t 0 k (inr (r, i, h)) (a .1), a .2)
 
   -- Two outcomes that the contract permits are equal.
-  pub settled : (a b : Built) (labels₁ entries₁ labels₂ entries₂ : List ℕ) → RuleSays p n t labels entries a labels₁ entries₁
+  pub settled : (a b : Made) (labels₁ entries₁ labels₂ entries₂ : List ℕ) → RuleSays p n t labels entries a labels₁ entries₁
       → RuleSays p n t labels entries b labels₂ entries₂ → (a ≡ b) × (labels₁ ≡ labels₂) × (entries₁ ≡ entries₂)
   unfolding RuleSays
   settled (Scheme s) (Scheme s′) labels₁ entries₁ labels₂ entries₂ x y =

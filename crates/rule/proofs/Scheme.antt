@@ -23,7 +23,8 @@ use Rattle.rules.proofs.Numbers.{rowEntry}
 use Rattle.reader.specs.Refusal.{ruleRefusal, TextRefusal}
 use Rattle.builder.specs.declared.Place.{Place}
 use Rattle.builder.specs.Made.{Held, Made}
-use Rattle.rule.specs.Says.{over, shapeOf}
+use Rattle.scheme.specs.Outcome.{over}
+use Rattle.rule.specs.Says.{shapeOf}
 use Rattle.rule.specs.Copied.{Copied, Written}
 use Rattle.rule.proofs.Copies.{over-is}
 
