@@ -1,4 +1,5 @@
 // From a written rule to its scheme: the four numbers, the labels and the entries.
+use scheme::Made;
 use scheme::Shape;
 ghost use mathlib.Core.Path.{_≡_};
 ghost use mathlib.Core.List.{[]};
@@ -9,12 +10,6 @@ ghost use Rattle.linear.specs.Flat.{place};
 ghost use Rattle.reader.specs.Refusal.{TextRefusal};
 ghost use Rattle.rule.specs.Says.{frontRefusal, RuleSays};
 ghost use Rattle.rule.specs.Copied.{Copied, Written};
-
-// The scheme's numbers, or a refusal with the paper's number.
-pub enum Built {
-    Scheme(Shape),
-    Refused(u32),
-}
 
 fn front_refusal(p: u32, n: u32, lplaces: usize, eplaces: usize) -> u32
     ensures { λ r. ⌜ r ≡ frontRefusal p n lplaces eplaces ⌝ }
@@ -96,16 +91,16 @@ fn blank() -> [[u32; 12]; 32]
 
 // Builds the scheme of a written rule. Wrong answers that the contract rules out: a column taken after what is inside a term; a scheme for a
 // text with a ninth open parenthesis; labels written where the call is refused.
-pub fn build(p: u32, n: u32, text: &[u8], labels: &mut [u32], entries: &mut [u32]) -> Built
+pub fn build(p: u32, n: u32, text: &[u8], labels: &mut [u32], entries: &mut [u32]) -> Made
     ensures { λ a. ⌜ RuleSays p n (now (text .entry)) (now (labels .entry)) (now (entries .entry)) a (now (labels .exit)) (now (entries .exit)) ⌝ }
 {
     let bad = front_refusal(p, n, labels.len(), entries.len());
     if bad != 0 {
-        return Built::Refused(bad);
+        return Made::Refused(bad);
     }
     let wrong = reader::refusal(n, text);
     if wrong != 0 {
-        return Built::Refused(wrong);
+        return Made::Refused(wrong);
     }
     let mut ents = blank();
     let mut labs = [0u32; 32];
@@ -118,5 +113,5 @@ pub fn build(p: u32, n: u32, text: &[u8], labels: &mut [u32], entries: &mut [u32
         labels,
         entries,
     );
-    Built::Scheme(s)
+    Made::Scheme(s)
 }
