@@ -1,4 +1,4 @@
--- The whole text: what the builder leaves for a rule that is not too large is what `Made` says.
+-- The whole text: what the builder leaves for a rule that is not too large is what `Left` says.
 -- Assumes nothing.
 use mathlib.Core.Path.{_≡_, refl, sym, ap, ap₂, _∙_}
 use mathlib.Core.List.{List, [], _∷_, append-nil}
@@ -15,7 +15,7 @@ use Rattle.rules.proofs.Counting.{rule-count, label-at}
 use Rattle.reader.proofs.Ends.{nothing-follows}
 use Rattle.builder.specs.declared.Place.{Place}
 use Rattle.builder.specs.Building.{vectors, out, standing, ruleBuilt}
-use Rattle.builder.specs.Made.{Held, Made}
+use Rattle.builder.specs.Left.{Held, Left}
 use Rattle.builder.proofs.Trees.{written, done, rule-builds}
 
 -- The rows of the rule as the builder has them, in vectors of 12 numbers.
@@ -113,7 +113,7 @@ held p r es ls place es′ ls′ q o d c a b =
 
 pub made-by : (p : ℕ) (t : List ℕ) (es : List (List ℕ)) (ls : List ℕ) (v : List ℕ) (place : Place) (es′ : List (List ℕ)) (ls′ : List ℕ)
     → v ≡ vectors p .unit 0 → ((n : ℕ) → 3 * (length t - 0) + 2 < n → out es′ ls′ place ≡ ruleBuilt n t p 8 v (standing es ls 0 0 1))
-    → Made p t es ls place es′ ls′
+    → Left p t es ls place es′ ls′
 made-by p t es ls v place es′ ls′ e h = record {
   is = λ r i d c. held p r es ls place es′ ls′ (length t)
       (h (3 * length t + 3) (omega arith) ∙ ap (λ w. ruleBuilt (3 * length t + 3) t p 8 w (standing es ls 0 0 1)) e

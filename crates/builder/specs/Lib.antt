@@ -1,2 +1,2 @@
 pub mod Building
-pub mod Made
+pub mod Left

@@ -10,7 +10,7 @@ ghost use Prim.Native.Nat.{ℕ, _+_, _*_, _-_, _<_, _≤_};
 ghost use lib.ListN.{length, set};
 ghost use Rattle.rules.specs.Construction.{lessAll};
 ghost use Rattle.builder.specs.Building.{vectors, numberValue, andsFrom, out, Past, ruleBuilt, termBuilt, atomBuilt};
-ghost use Rattle.builder.specs.Made.{Made};
+ghost use Rattle.builder.specs.Left.{Left};
 
 // Where the builder stands: whether all went well, the place in the text, the next row, the next column.
 pub struct Place {
@@ -322,7 +322,7 @@ fn build_atom(
 // The rows and labels of the whole text, if it is a rule that needs at most 32 rows and 12 columns.
 pub fn make(p: u32, text: &[u8], ents: &mut [[u32; 12]], labs: &mut [u32]) -> Place
     requires { ⌜ 1 ≤ p ⌝ }
-    ensures { λ r. ⌜ Made p (now (text .entry)) (now (ents .entry)) (now (labs .entry)) r (now (ents .exit)) (now (labs .exit)) ⌝ }
+    ensures { λ r. ⌜ Left p (now (text .entry)) (now (ents .entry)) (now (labs .entry)) r (now (ents .exit)) (now (labs .exit)) ⌝ }
 {
     let v = unit(0);
     let st = Place {

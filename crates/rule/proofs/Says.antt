@@ -1,16 +1,15 @@
 -- What `build` answers, from what its steps answer; that its contract settles the outcome; that what it writes is a scheme, which opens for
 -- exactly the sets for which the rule is true.
 -- Assumes nothing.
-use mathlib.Core.Path.{_≡_, refl, sym, ap, ap₂, subst, subst⁻¹, _∙_}
-use mathlib.Core.Bool.{Bool, true, _&&_}
-use mathlib.Core.List.{List, [], _∷_}
+use mathlib.Core.Path.{_≡_, refl, sym, ap, subst, subst⁻¹, _∙_}
+use mathlib.Core.Bool.{true, _&&_}
+use mathlib.Core.List.{List, []}
 use mathlib.Core.Logic.{_⊎_, inl, inr, _↔_}
-use Prim.Native.Nat.{ℕ, zero, suc, _*_, _<_, _≤_}
+use Prim.Native.Nat.{ℕ, _*_, _<_}
 use native.Mathlib.Omega.{arith}
 use lib.Dec.{eqb, leb, ltb}
-use lib.ListN.{length, getD, take, drop}
-use lib.Seq.{take-at}
-use borrow.Author.Tests.{eqb-true, eq-eqb, leb-true, le-leb, lt-ltb}
+use lib.ListN.{length, getD, take}
+use borrow.Author.Tests.{eqb-true, eq-eqb, leb-true, lt-ltb}
 use Rattle.residue.specs.Prime.{Prime}
 use Rattle.residue.specs.Moduli.{isModulus}
 use Rattle.residue.proofs.Moduli.{modulus-prime}
@@ -18,11 +17,15 @@ use Rattle.linear.specs.Flat.{entry}
 use Rattle.linear.specs.Rows as Rows
 use Rattle.linear.proofs.Rows.{open-same}
 use Rattle.scheme.specs.declared.Shape.{Shape}
+use Rattle.scheme.specs.declared.Made.{Made}
+use Rattle.scheme.specs.declared.Made.the-variants.{Scheme, Refused}
+use Rattle.scheme.specs.Outcome.{over}
 use Rattle.scheme.specs.Open as Set
 use Rattle.scheme.specs.Sets.{inSet, ofSet}
 use Rattle.scheme.specs.Tests.{within, each, eachBelow, unless, orElse}
 use Rattle.scheme.specs.Refusal.{numbersRefusal, contentRefusal, refusalOf, IsScheme}
-use Rattle.scheme.proofs.Tests.{and-true, each-at}
+use Rattle.scheme.proofs.Tests.{and-true, within-is, each-at, each-by}
+use Rattle.scheme.proofs.Over.{take-over}
 use Rattle.scheme.proofs.Refusals.{orElse-zero, unless-zero}
 use Rattle.rules.specs.Tree.{Rule, ruleNames, ruleHolds}
 use Rattle.rules.specs.Text.{IsRule}
@@ -33,9 +36,6 @@ use Rattle.rules.proofs.Signs.{names-joins}
 use Rattle.reader.specs.Refusal.{ruleRefusal, TextRefusal}
 use Rattle.reader.proofs.OneTree.{one-tree}
 use Rattle.reader.proofs.Refused.{text-refusal-one}
-use Rattle.scheme.specs.declared.Made.{Made}
-use Rattle.scheme.specs.declared.Made.the-variants.{Scheme, Refused}
-use Rattle.scheme.specs.Outcome.{over}
 use Rattle.rule.specs.Says.{frontRefusal, shapeOf, RuleSays}
 use Rattle.rule.specs.Copied.{Written}
 use Rattle.rule.proofs.Scheme.{rule-fits, entries-size, entries-below}
@@ -119,15 +119,6 @@ module _ (p n : ℕ) (t labels entries : List ℕ) where
   settled (Refused j) (Refused k) labels₁ entries₁ labels₂ entries₂ x y =
       (ap Refused (why-one j k (x .0) (y .0)), x .1 ∙ sym (y .1), x .2 ∙ sym (y .2))
 
--- A test that holds at each place holds of each number.
-each-by : (test : ℕ → Bool) (xs : List ℕ) → ((i : ℕ) → i < length xs → test (getD xs i 0) ≡ true) → each test xs ≡ true
-unfolding each
-each-by test [] h = refl
-each-by test (x ∷ xs) h = ap₂ _&&_ (h zero (omega arith)) (each-by test xs (λ i l. h (suc i) (omega arith)))
-
-within-is : (lo hi x : ℕ) → lo ≤ x → x ≤ hi → within lo hi x ≡ true
-within-is lo hi x l u = ap₂ _&&_ (le-leb lo x l) (le-leb x hi u)
-
 -- The scheme of a rule of which nothing is refused.
 module _ (p n : ℕ) (t : List ℕ) (r : Rule) (i : IsRule t r) (h : ruleRefusal n r ≡ 0) (modulus : isModulus p ≡ true) (people : within 1 16 n ≡ true) where
   labels-right : each (within 1 n) (ruleNames r) ≡ true
@@ -183,10 +174,6 @@ module _ (p n : ℕ) (t : List ℕ) (r : Rule) (i : IsRule t r) (h : ruleRefusal
       from : Opens d → Set.Open (shapeOf p n r) (labelsOf (rows p r)) (entriesOf (rows p r)) set
       from o = open-same p d (columns r) (rowEntry (rows p r)) (entry (columns r) (entriesOf (rows p r))) (λ k. inSet set (rowLabel (rows p r) k))
           (ofSet set (labelsOf (rows p r))) (λ k j lk lj. sym (same k j lk lj)) (λ k l. sym (marks k l)) o
-
--- The first places of the lent lists after the call are the rule's labels and entries.
-take-over : (m : ℕ) (new old : List ℕ) → length new ≡ m → take m (over new old) ≡ new
-take-over m new old e = take-at new (drop (length new) old) m e
 
 -- What is written, as a scheme.
 module _ (p n : ℕ) (t labels entries : List ℕ) (s : Shape) (labels′ entries′ : List ℕ) (x : RuleSays p n t labels entries (Scheme s) labels′ entries′) where

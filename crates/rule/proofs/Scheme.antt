@@ -14,6 +14,8 @@ use borrow.Author.Tests.{leb-true}
 use Rattle.lists.proofs.Fill.{Filled, filled-front}
 use Rattle.linear.specs.Flat.{place}
 use Rattle.scheme.specs.Tests.{each, unless, orElse}
+use Rattle.scheme.specs.Outcome.{over}
+use Rattle.scheme.proofs.Over.{over-is}
 use Rattle.scheme.proofs.Refusals.{orElse-zero, unless-zero}
 use Rattle.rules.specs.Tree.{Rule, ruleNames}
 use Rattle.rules.specs.Text.{IsRule}
@@ -22,11 +24,9 @@ use Rattle.rules.proofs.Counting.{labels-are, rows-count, rows-below, entries-l
 use Rattle.rules.proofs.Numbers.{rowEntry}
 use Rattle.reader.specs.Refusal.{ruleRefusal, TextRefusal}
 use Rattle.builder.specs.declared.Place.{Place}
-use Rattle.builder.specs.Made.{Held, Made}
-use Rattle.scheme.specs.Outcome.{over}
+use Rattle.builder.specs.Left.{Held, Left}
 use Rattle.rule.specs.Says.{shapeOf}
 use Rattle.rule.specs.Copied.{Copied, Written}
-use Rattle.rule.proofs.Copies.{over-is}
 
 -- A text of which nothing is refused is a rule.
 rule-of : (n : ℕ) (t : List ℕ) → TextRefusal n t 0 → (r : Rule) × IsRule t r × (ruleRefusal n r ≡ 0)
@@ -111,7 +111,7 @@ module _ (p : ℕ) (r : Rule) (made : Place) (es : List (List ℕ)) (ls : List �
           ∙ sym (entry-place p r i l)
 
 module _ (p n : ℕ) (t : List ℕ) (es : List (List ℕ)) (ls : List ℕ) (made : Place) (es′ : List (List ℕ)) (ls′ : List ℕ)
-    (h : TextRefusal n t 0) (m : Made p t es ls made es′ ls′) (a : 32 ≤ length es) (b : 32 ≤ length ls) where
+    (h : TextRefusal n t 0) (m : Left p t es ls made es′ ls′) (a : 32 ≤ length es) (b : 32 ≤ length ls) where
   abbrev r : Rule
   r = rule-of n t h .0
 

@@ -6,11 +6,11 @@ use mathlib.Core.List.{List, []}
 use Prim.Native.Nat.{ℕ, _+_, _*_, _<_, _≤_}
 use lib.ListN.{length, getD}
 use Rattle.scheme.specs.declared.Shape.{Shape}
+use Rattle.scheme.specs.Outcome.{over}
 use Rattle.rules.specs.Tree.{Rule}
 use Rattle.rules.specs.Text.{IsRule}
 use Rattle.rules.specs.Construction.{rows, labelsOf, entriesOf}
 use Rattle.reader.specs.Refusal.{ruleRefusal}
-use Rattle.scheme.specs.Outcome.{over}
 use Rattle.rule.specs.Says.{shapeOf}
 
 -- The first e numbers of each of the first d rows stand in x, row by row; all after them is as in x₀.

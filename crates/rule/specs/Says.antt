@@ -9,14 +9,14 @@ use lib.Dec.{eqb}
 use lib.ListN.{length}
 use Rattle.residue.specs.Moduli.{isModulus}
 use Rattle.scheme.specs.declared.Shape.{Shape}
+use Rattle.scheme.specs.declared.Made.{Made}
+use Rattle.scheme.specs.declared.Made.the-variants.{Scheme, Refused}
+use Rattle.scheme.specs.Outcome.{over}
 use Rattle.scheme.specs.Tests.{within, unless, orElse}
 use Rattle.rules.specs.Tree.{Rule, ruleNames}
 use Rattle.rules.specs.Text.{IsRule}
 use Rattle.rules.specs.Construction.{columns, rows, labelsOf, entriesOf}
 use Rattle.reader.specs.Refusal.{ruleRefusal, TextRefusal}
-use Rattle.scheme.specs.declared.Made.{Made}
-use Rattle.scheme.specs.declared.Made.the-variants.{Scheme, Refused}
-use Rattle.scheme.specs.Outcome.{over}
 
 -- 1, 2: p, n not as said; 5: "A rule or file read wants 32 label places and 384 entry places".
 abbrev pub frontRefusal : ℕ → ℕ → ℕ → ℕ → ℕ

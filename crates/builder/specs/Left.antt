@@ -20,5 +20,5 @@ pub record Held (p : ℕ) (r : Rule) (place : Place) (es : List (List ℕ)) (ls 
   pub entries : (k : ℕ) → k < length (ruleNames r) → take (columns r) (getD es k []) ≡ getD (rows p r) k (0, []) .1
 
 -- es and ls are the lists before, es′ and ls′ those after.
-pub record Made (p : ℕ) (t : List ℕ) (es : List (List ℕ)) (ls : List ℕ) (place : Place) (es′ : List (List ℕ)) (ls′ : List ℕ) : Type 0 where
+pub record Left (p : ℕ) (t : List ℕ) (es : List (List ℕ)) (ls : List ℕ) (place : Place) (es′ : List (List ℕ)) (ls′ : List ℕ) : Type 0 where
   pub is : (r : Rule) → IsRule t r → length (ruleNames r) ≤ 32 → columns r ≤ 12 → 32 ≤ length es → 32 ≤ length ls → Held p r place es′ ls′
