@@ -2,7 +2,7 @@
 -- exactly the sets for which the rule is true.
 -- Assumes nothing.
 use mathlib.Core.Path.{_≡_, refl, sym, ap, subst, subst⁻¹, _∙_}
-use mathlib.Core.Bool.{true, _&&_}
+use mathlib.Core.Bool.{Bool, true, false, _&&_, true≢false}
 use mathlib.Core.List.{List, []}
 use mathlib.Core.Logic.{_⊎_, inl, inr, _↔_}
 use Prim.Native.Nat.{ℕ, _*_, _<_}
@@ -202,6 +202,7 @@ module _ (p n : ℕ) (t labels entries : List ℕ) (s : Shape) (labels′ entrie
       let f = front-parts p n (length labels) (length entries) (parts .0) in
       carried IsScheme (rule-scheme p n t its (parts .1 .1) (parts .1 .2) (f .modulus) (f .participants))
 
+  -- "A set is open exactly when the rule is true for it", and closed exactly when it is false.
   pub built-opens : (r : Rule) → IsRule t r → (set : ℕ)
       → Set.Open s (take (s .d) labels′) (take (s .d * s .e) entries′) set ↔ (ruleHolds (inSet set) r ≡ true)
   built-opens r i set =
@@ -210,3 +211,21 @@ module _ (p n : ℕ) (t labels entries : List ℕ) (s : Shape) (labels′ entrie
       carried (λ s labels entries. Set.Open s labels entries set ↔ (ruleHolds (inSet set) r ≡ true))
       (subst (λ z. Set.Open (shapeOf p n its) (labelsOf (rows p its)) (entriesOf (rows p its)) set ↔ (ruleHolds (inSet set) z ≡ true)) q
       (rule-opens p n t its (parts .1 .1) (parts .1 .2) (f .modulus) (f .participants) set))
+
+  pub built-closes : (r : Rule) → IsRule t r → (set : ℕ)
+      → Set.Closed s (take (s .d) labels′) (take (s .d * s .e) entries′) set ↔ (ruleHolds (inSet set) r ≡ false)
+  built-closes r i set = ((λ c. go (ruleHolds (inSet set) r) refl c), λ q o. true≢false (sym (built-opens r i set .0 o) ∙ q))
+    where
+      go : (b : Bool) → ruleHolds (inSet set) r ≡ b → Set.Closed s (take (s .d) labels′) (take (s .d * s .e) entries′) set
+          → ruleHolds (inSet set) r ≡ false
+      go true q c = absurd (c (built-opens r i set .1 q))
+      go false q c = q
+
+-- A rule that fits is built: no refusal is permitted.
+pub fitting-built : (p n : ℕ) (t labels entries : List ℕ) → frontRefusal p n (length labels) (length entries) ≡ 0 → (r : Rule) → IsRule t r
+    → ruleRefusal n r ≡ 0 → (a : Made) (labels′ entries′ : List ℕ) → RuleSays p n t labels entries a labels′ entries′
+    → a ≡ Scheme (shapeOf p n r)
+unfolding RuleSays
+fitting-built p n t labels entries h r i q a labels′ entries′ x =
+    settled p n t labels entries a (Scheme (shapeOf p n r)) labels′ entries′ (over (labelsOf (rows p r)) labels)
+    (over (entriesOf (rows p r)) entries) x (h, (r, i, q, refl, refl, refl)) .0

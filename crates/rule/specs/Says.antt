@@ -29,7 +29,8 @@ frontRefusal p n labelPlaces entryPlaces =
 abbrev pub shapeOf : ℕ → ℕ → Rule → Shape
 shapeOf p n r = record { p = p; n = n; d = length (ruleNames r); e = columns r }
 
--- labels and entries are the lent lists before the call, labels′ and entries′ after it.
+-- labels and entries are the lent lists before the call, labels′ and entries′ after it. The text is lent for reading only and cannot
+-- change. There is at most one rule r that the text is (`one-tree` of reader/proofs/OneTree.antt).
 unfoldable pub RuleSays : ℕ → ℕ → List ℕ → List ℕ → List ℕ → Made → List ℕ → List ℕ → Type 0
 RuleSays p n t labels entries (Scheme s) labels′ entries′ =
     (frontRefusal p n (length labels) (length entries) ≡ 0)
