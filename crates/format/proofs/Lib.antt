@@ -1,3 +1,4 @@
+pub mod Again
 pub mod Below
 pub mod Bytes
 pub mod Places
