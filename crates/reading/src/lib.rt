@@ -24,14 +24,25 @@ fn content(file: &[u8], b: usize) -> &[u8]
     &file[start..end]
 }
 
+// A byte as a number.
+fn wide(x: u8) -> u32
+    ensures { λ r. ⌜ (r ≡ x) × (r < 256) ⌝ }
+{
+    x as u32
+}
+
+fn number(low: u8, high: u8) -> u32
+    ensures { λ r. ⌜ (r ≡ low + 256 * high) × (r < 65536) ⌝ }
+{
+    (low as u32) + 256 * (high as u32)
+}
+
 // Numbers little-endian.
 fn two_bytes(bytes: &[u8], at: usize) -> u32
     requires { ⌜ at + 2 ≤ length (now bytes) ⌝ }
     ensures { λ r. ⌜ (r ≡ numberOf 2 (λ k. place (now (bytes .entry)) (at + k))) × (r < 65536) ⌝ }
 {
-    let low = bytes[at];
-    let high = bytes[at + 1];
-    (low as u32) + 256 * (high as u32)
+    number(bytes[at], bytes[at + 1])
 }
 
 fn four_bytes(bytes: &[u8], at: usize) -> u32
@@ -152,10 +163,10 @@ fn heading(file: &[u8]) -> Shape
 {
     let c = content(file, 0);
     let p = two_bytes(c, 0);
-    let n = c[2];
-    let d = c[3];
-    let e = c[4];
-    Shape { p: p, n: n as u32, d: d as usize, e: e as usize }
+    let n = wide(c[2]);
+    let d = wide(c[3]);
+    let e = wide(c[4]);
+    Shape { p: p, n: n, d: d as usize, e: e as usize }
 }
 
 // Whether a place of a block's content has a use.
@@ -229,8 +240,7 @@ fn label(file: &[u8], k: usize) -> u32
     ensures { λ r. ⌜ r ≡ recordAt 1 (now (file .entry)) k 0 ⌝ }
 {
     let c = content(file, 1 + k / 20);
-    let x = c[(k % 20) * 25];
-    x as u32
+    wide(c[(k % 20) * 25])
 }
 
 // Entry i of the file, counted row by row.

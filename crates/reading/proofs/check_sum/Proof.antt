@@ -1,56 +1,54 @@
+-- `reading::check_sum` meets its contract. The loop's invariant: the first o bytes are added up, at most 129540 each.
+-- Assumes nothing.
+use mathlib.Core.Path.{_≡_, refl}
+use Prim.Native.Nat.{_+_, _*_, _-_, _≤_}
 use borrow.Author.Needs.{needs}
 use native.Mathlib.Omega.{arith}
+use Rattle.linear.specs.Combination.{total}
+use Rattle.format.specs.Reading.{byteAt}
+use Rattle.reading.specs.Parts.{checkSum}
+use Rattle.reading.proofs.Sums.{sum-go, sum-end}
 use Rattle.reading.proofs.check_sum.Statement.{statement}
 use Rattle.reading.proofs.check_sum.Tie as tie
-use Rattle.reading.proofs.check_sum.Reads as reads
-use Rattle.reading.proofs.check_sum.Lts as lts
-use Rattle.reading.proofs.weighted.Reads as weighted-reads
 
 abbrev Inv-loop : tie.InvT-loop
-Inv-loop file b at sum₀ o₀ sum o = ?
+Inv-loop file b at sum₀ o₀ sum o = (o ≤ 508) × (sum ≤ o * 129540) × (sum ≡ total o (λ k. byteAt 1 file b k * (k + 1)))
 
 abbrev μ-loop : tie.MeasureT-loop
-μ-loop file b at sum₀ o₀ sum o = ?
+μ-loop file b at sum₀ o₀ sum o = 508 - o
 
--- src/lib.rt:58:14
 mul-at : tie.Need-mul-at Inv-loop μ-loop
 mul-at c = search needs
 
--- src/lib.rt:61:5
 loop-holds : tie.Need-loop-holds Inv-loop μ-loop
-loop-holds c = search needs
+loop-holds c = (omega arith, omega arith, refl)
 
--- src/lib.rt:62:30
 add-weighted : tie.Need-add-weighted Inv-loop μ-loop
 add-weighted c = search needs
 
--- src/lib.rt:62:25
 shared-slice-read-weighted : tie.Need-shared-slice-read-weighted Inv-loop μ-loop
 shared-slice-read-weighted c = search needs
 
--- src/lib.rt:62:16
 weighted-requires : tie.Need-weighted-requires Inv-loop μ-loop
 weighted-requires c κs = search needs
 
--- src/lib.rt:62:9
 add-sum : tie.Need-add-sum Inv-loop μ-loop
-add-sum c = search needs
+add-sum c = omega (arith, c .weighted .ensures .1)
 
--- src/lib.rt:63:9
 add-o : tie.Need-add-o Inv-loop μ-loop
 add-o c = search needs
 
--- src/lib.rt:61:5
 loop-less : tie.Need-loop-less Inv-loop μ-loop
 loop-less c = search needs
 
--- src/lib.rt:61:5
 loop-again : tie.Need-loop-again Inv-loop μ-loop
-loop-again c = search needs
+loop-again c =
+    let l = c .before .before .before .loop in
+    let h = c .before .before .before .before .before .args in
+    (omega arith, omega (arith, c .weighted .ensures .1), sum-go (h .file .now) (h .b) (l .sum) (l .o) _ (l .inv .2) (c .weighted .ensures .0))
 
--- src/lib.rt:54:1
 returns : tie.Need-returns Inv-loop μ-loop
-returns c = search needs
+returns c = let l = c .before .loop in sum-end _ _ (l .sum) (l .o) (l .inv .2) (omega arith)
 
 pub check-sum-spec : {M : Type 1} → statement M
 check-sum-spec =

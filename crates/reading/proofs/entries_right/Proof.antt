@@ -1,48 +1,62 @@
+-- `reading::entries_right` meets its contract. The loop's invariant: the first i entries are below p.
+-- Assumes nothing.
+use mathlib.Core.Path.{sym, ap, _∙_}
+use Prim.Native.Nat.{ℕ, _*_, _-_, _/_}
 use borrow.Author.Needs.{needs}
 use native.Mathlib.Omega.{arith}
+use lib.Dec.{ltb}
+use borrow.Author.Tests.{lt-ltb, le-ltb}
+use native.Mathlib.Nat.{mul-le-mul}
+use Rattle.reading.specs.Parts.{entryAt}
+use Rattle.reading.proofs.Rows.{row-block, entry-row}
+use Rattle.reading.proofs.Trying.{each-list}
+use Rattle.reading.proofs.Trying.{Trying, try-start, try-turn, try-stop, try-end}
 use Rattle.reading.proofs.entries_right.Statement.{statement}
 use Rattle.reading.proofs.entries_right.Tie as tie
-use Rattle.reading.proofs.entries_right.Reads as reads
-use Rattle.reading.proofs.entries_right.Lts as lts
-use Rattle.reading.proofs.entry.Reads as entry-reads
 
 abbrev Inv-loop : tie.InvT-loop
-Inv-loop file p d e all i₀ i = ?
+Inv-loop file p d e all i₀ i = Trying (d * e) (λ k. ltb (entryAt file e k) p) i
 
 abbrev μ-loop : tie.MeasureT-loop
-μ-loop file p d e all i₀ i = ?
+μ-loop file p d e all i₀ i = d * e - i
 
--- src/lib.rt:267:15
 mul-all : tie.Need-mul-all Inv-loop μ-loop
-mul-all c = search needs
+mul-all c = let h = c .before in omega (arith, mul-le-mul {n₁ = h .args .d} {m₁ = h .args .e} {n₂ = 32} {m₂ = 12} (h .pre .0) (h .pre .2))
 
--- src/lib.rt:269:5
 loop-holds : tie.Need-loop-holds Inv-loop μ-loop
-loop-holds c = search needs
+loop-holds c = try-start _ _
 
--- src/lib.rt:270:12
 entry-requires : tie.Need-entry-requires Inv-loop μ-loop
-entry-requires c κs = search needs
+entry-requires c κs = let h = c .before .before .before in
+    let i = c .before .loop .i in
+    (h .pre .1, h .pre .2, row-block (i / h .args .e) _ _ (entry-row i (h .args .d) (h .args .e) (h .pre .1) (omega arith)) (h .pre .3))
 
--- src/lib.rt:271:13
 returns : tie.Need-returns Inv-loop μ-loop
-returns c = search needs
+returns c =
+    let h = c .before .before .before .before .before .args in
+    let l = c .before .before .before .loop in
+    try-stop (h .d * h .e) (λ k. ltb (entryAt (h .file .now) (h .e) k) (h .p)) (l .i) (omega arith) (ap (λ (x : ℕ). ltb x (h .p)) (sym (c .before .entry .ensures)) ∙ le-ltb _ _ (c .if1 .taken)) ∙ sym (each-list (λ x. ltb x (h .p)) (h .d * h .e) (entryAt (h .file .now) (h .e)))
 
--- src/lib.rt:273:9
 add-i : tie.Need-add-i Inv-loop μ-loop
-add-i c = search needs
+add-i c =
+    let h = c .before .before .before .before .before in
+    let l = mul-le-mul {n₁ = h .args .d} {m₁ = h .args .e} {n₂ = 32} {m₂ = 12} (h .pre .0) (h .pre .2) in
+    omega arith
 
--- src/lib.rt:269:5
 loop-less : tie.Need-loop-less Inv-loop μ-loop
 loop-less c = search needs
 
--- src/lib.rt:269:5
 loop-again : tie.Need-loop-again Inv-loop μ-loop
-loop-again c = search needs
+loop-again c =
+    let h = c .before .before .before .before .before .args in
+    let l = c .before .before .before .loop in
+    try-turn _ _ (l .i) (l .inv) (omega arith) (ap (λ (x : ℕ). ltb x (h .p)) (sym (c .before .entry .ensures)) ∙ lt-ltb _ _ (c .if1 .left))
 
--- src/lib.rt:263:1
 returns-2 : tie.Need-returns-2 Inv-loop μ-loop
-returns-2 c = search needs
+returns-2 c =
+    let h = c .before .before .before .args in
+    let l = c .before .loop in
+    try-end _ _ (l .i) (l .inv) (omega arith) ∙ sym (each-list (λ x. ltb x (h .p)) (h .d * h .e) (entryAt (h .file .now) (h .e)))
 
 pub entries-right-spec : {M : Type 1} → statement M
 entries-right-spec =

@@ -1,56 +1,55 @@
+-- `reading::fill_entries` meets its contract. The loop's invariant: the first i places hold the first i entries.
+-- Assumes nothing.
+use Prim.Native.Nat.{_*_, _-_, _/_}
 use borrow.Author.Needs.{needs}
 use native.Mathlib.Omega.{arith}
+use Rattle.reading.specs.Parts.{entryAt}
+use Rattle.format.specs.Reading.{entriesAt}
+use Rattle.lists.proofs.Fill.{Filled, fill-start, fill-turn}
+use Rattle.scheme.proofs.Over.{filled-over}
+use Rattle.reading.proofs.Rows.{row-block, entry-row}
 use Rattle.reading.proofs.fill_entries.Statement.{statement}
 use Rattle.reading.proofs.fill_entries.Tie as tie
-use Rattle.reading.proofs.fill_entries.Reads as reads
-use Rattle.reading.proofs.fill_entries.Lts as lts
-use Rattle.reading.proofs.entry.Reads as entry-reads
 
 abbrev Inv-loop : tie.InvT-loop
-Inv-loop file d e entries₀ all i₀ entries i = ?
+Inv-loop file d e entries₀ all i₀ entries i = Filled 0 (d * e) (entryAt file e) entries₀ entries i
 
 abbrev μ-loop : tie.MeasureT-loop
-μ-loop file d e entries₀ all i₀ entries i = ?
+μ-loop file d e entries₀ all i₀ entries i = d * e - i
 
--- src/lib.rt:354:15
 mul-all : tie.Need-mul-all Inv-loop μ-loop
 mul-all c = search needs
 
--- src/lib.rt:356:5
 loop-holds : tie.Need-loop-holds Inv-loop μ-loop
-loop-holds c = search needs
+loop-holds c = fill-start _ _ _ _
 
--- src/lib.rt:357:22
 entry-requires : tie.Need-entry-requires Inv-loop μ-loop
-entry-requires c κs = search needs
+entry-requires c κs = let h = c .before .before .before .before in
+    let i = c .before .loop .i in
+    (h .pre .0, h .pre .1, row-block (i / h .args .e) _ _ (entry-row i (h .args .d) (h .args .e) (h .pre .0) (omega arith)) (h .pre .3))
 
--- src/lib.rt:357:9
 mul-entries : tie.Need-mul-entries Inv-loop μ-loop
-mul-entries c = search needs
+mul-entries c = omega (arith, c .before .before .loop .inv .size)
 
--- src/lib.rt:357:9
 slice-write-entries : tie.Need-slice-write-entries Inv-loop μ-loop
-slice-write-entries c = search needs
+slice-write-entries c = omega (arith, c .before .before .loop .inv .size)
 
--- src/lib.rt:358:9
 add-i : tie.Need-add-i Inv-loop μ-loop
 add-i c = search needs
 
--- src/lib.rt:356:5
 loop-less : tie.Need-loop-less Inv-loop μ-loop
 loop-less c = search needs
 
--- src/lib.rt:356:5
 loop-again : tie.Need-loop-again Inv-loop μ-loop
-loop-again c = search needs
+loop-again c = let i = c .before .before .loop .inv in
+    let h = c .before .before .before .before .before in
+    fill-turn _ _ _ _ _ _ _ _ i (omega arith) (omega (arith, h .pre .2)) (omega arith) (c .entry .ensures)
 
--- src/lib.rt:350:1
 same-length : tie.Need-same-length Inv-loop μ-loop
-same-length c = search needs
+same-length c = c .before .loop .inv .size
 
--- src/lib.rt:350:1
 returns : tie.Need-returns Inv-loop μ-loop
-returns c = search needs
+returns c = filled-over _ _ _ _ _ (c .before .loop .inv) (omega arith) (c .before .before .before .before .pre .2)
 
 pub fill-entries-spec : {M : Type 1} → statement M
 fill-entries-spec =

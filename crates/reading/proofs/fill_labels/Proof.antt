@@ -1,52 +1,49 @@
+-- `reading::fill_labels` meets its contract. The loop's invariant: the first k places hold the first k labels.
+-- Assumes nothing.
+use Prim.Native.Nat.{_-_}
 use borrow.Author.Needs.{needs}
 use native.Mathlib.Omega.{arith}
+use Rattle.format.specs.Reading.{recordAt, labelsAt}
+use Rattle.lists.proofs.Fill.{Filled, fill-start, fill-turn}
+use Rattle.scheme.proofs.Over.{filled-over}
+use Rattle.reading.proofs.Rows.{row-block}
 use Rattle.reading.proofs.fill_labels.Statement.{statement}
 use Rattle.reading.proofs.fill_labels.Tie as tie
-use Rattle.reading.proofs.fill_labels.Reads as reads
-use Rattle.reading.proofs.fill_labels.Lts as lts
-use Rattle.reading.proofs.label.Reads as label-reads
 
 abbrev Inv-loop : tie.InvT-loop
-Inv-loop file d labels₀ k₀ labels k = ?
+Inv-loop file d labels₀ k₀ labels k = Filled 0 d (λ i. recordAt 1 file i 0) labels₀ labels k
 
 abbrev μ-loop : tie.MeasureT-loop
-μ-loop file d labels₀ k₀ labels k = ?
+μ-loop file d labels₀ k₀ labels k = d - k
 
--- src/lib.rt:344:5
 loop-holds : tie.Need-loop-holds Inv-loop μ-loop
-loop-holds c = search needs
+loop-holds c = fill-start _ _ _ _
 
--- src/lib.rt:345:21
 label-requires : tie.Need-label-requires Inv-loop μ-loop
-label-requires c κs = search needs
+label-requires c κs = let h = c .before .before .before .before in row-block (c .before .loop .k) _ _ (omega arith) (h .pre .1)
 
--- src/lib.rt:345:9
 mul-labels : tie.Need-mul-labels Inv-loop μ-loop
-mul-labels c = search needs
+mul-labels c = omega (arith, c .before .before .loop .inv .size)
 
--- src/lib.rt:345:9
 slice-write-labels : tie.Need-slice-write-labels Inv-loop μ-loop
-slice-write-labels c = search needs
+slice-write-labels c = omega (arith, c .before .before .loop .inv .size)
 
--- src/lib.rt:346:9
 add-k : tie.Need-add-k Inv-loop μ-loop
 add-k c = search needs
 
--- src/lib.rt:344:5
 loop-less : tie.Need-loop-less Inv-loop μ-loop
 loop-less c = search needs
 
--- src/lib.rt:344:5
 loop-again : tie.Need-loop-again Inv-loop μ-loop
-loop-again c = search needs
+loop-again c = let i = c .before .before .loop .inv in
+    let h = c .before .before .before .before .before in
+    fill-turn _ _ _ _ _ _ _ _ i (omega arith) (omega (arith, h .pre .0)) (omega arith) (c .label .ensures)
 
--- src/lib.rt:339:1
 same-length : tie.Need-same-length Inv-loop μ-loop
-same-length c = search needs
+same-length c = c .before .loop .inv .size
 
--- src/lib.rt:339:1
 returns : tie.Need-returns Inv-loop μ-loop
-returns c = search needs
+returns c = filled-over _ _ _ _ _ (c .before .loop .inv) (omega arith) (c .before .before .before .before .pre .0)
 
 pub fill-labels-spec : {M : Type 1} → statement M
 fill-labels-spec =

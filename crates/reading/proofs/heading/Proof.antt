@@ -1,47 +1,51 @@
+-- `reading::heading` meets its contract: the numbers stand in the content of block 0.
+-- Assumes nothing.
 use native.Mathlib.Omega.{arith}
 use borrow.Author.Needs.{needs}
+use mathlib.Core.Path.{ap}
+use lib.ListN.{length}
+use Rattle.reading.proofs.Contents.{content-length}
+use Rattle.reading.proofs.Headings.{heading-shape}
 use Rattle.reading.proofs.heading.Statement.{statement}
 use Rattle.reading.proofs.heading.Tie as tie
-use Rattle.reading.proofs.heading.Reads as reads
-use Rattle.reading.proofs.heading.Lts as lts
-use Rattle.reading.proofs.content.Reads as content-reads
-use Rattle.reading.proofs.two_bytes.Reads as two-bytes-reads
 
--- src/lib.rt:153:9
 content-requires : tie.Need-content-requires
 content-requires c κs = search needs
 
--- src/lib.rt:154:9
 two-bytes-requires : tie.Need-two-bytes-requires
-two-bytes-requires c κs = search needs
+two-bytes-requires c κs = let h = c .before .before in
+    omega (arith, ap length (c .content .ensures), content-length (h .args .file .now) 0 (h .pre))
 
--- src/lib.rt:155:13
-shared-slice-read-n : tie.Need-shared-slice-read-n
-shared-slice-read-n c = search needs
+shared-slice-read-wide : tie.Need-shared-slice-read-wide
+shared-slice-read-wide c = let h = c .before .before .before .before in
+    omega (arith, ap length (c .before .before .content .ensures), content-length (h .args .file .now) 0 (h .pre))
 
--- src/lib.rt:156:13
-shared-slice-read-d : tie.Need-shared-slice-read-d
-shared-slice-read-d c = search needs
+wide-requires : tie.Need-wide-requires
+wide-requires c κs = search needs
 
--- src/lib.rt:157:13
-shared-slice-read-e : tie.Need-shared-slice-read-e
-shared-slice-read-e c = search needs
+shared-slice-read-wide-2 : tie.Need-shared-slice-read-wide-2
+shared-slice-read-wide-2 c = let h = c .before .before .before .before .before .before in
+    omega (arith, ap length (c .before .before .before .before .content .ensures), content-length (h .args .file .now) 0 (h .pre))
 
--- src/lib.rt:158:22
+wide-requires-2 : tie.Need-wide-requires-2
+wide-requires-2 c κs = search needs
+
+shared-slice-read-wide-3 : tie.Need-shared-slice-read-wide-3
+shared-slice-read-wide-3 c = let h = c .before .before .before .before .before .before .before .before in
+    omega (arith, ap length (c .before .before .before .before .before .before .content .ensures), content-length (h .args .file .now) 0 (h .pre))
+
+wide-requires-3 : tie.Need-wide-requires-3
+wide-requires-3 c κs = search needs
+
 cast-t11 : tie.Need-cast-t11
 cast-t11 c = search needs
 
--- src/lib.rt:158:35
 cast-t12 : tie.Need-cast-t12
 cast-t12 c = search needs
 
--- src/lib.rt:158:50
-cast-t13 : tie.Need-cast-t13
-cast-t13 c = search needs
-
--- src/lib.rt:149:1
 returns : tie.Need-returns
-returns c = search needs
+returns c = heading-shape (c .before .before .before .before .before .before .before .before .before .args .file .now) _ (c .before .before .before .before .before .before .before .content .ensures) _ _ _ _ (c .before .before .before .before .before .before .two-bytes .ensures .0) (c .before .before .before .before .wide .ensures .0) (c .before .before .wide2 .ensures .0)
+    (c .wide3 .ensures .0)
 
 pub heading-spec : {M : Type 1} → statement M
 heading-spec =
@@ -49,10 +53,12 @@ heading-spec =
     (tie.spec
     content-requires
     two-bytes-requires
-    shared-slice-read-n
-    shared-slice-read-d
-    shared-slice-read-e
+    shared-slice-read-wide
+    wide-requires
+    shared-slice-read-wide-2
+    wide-requires-2
+    shared-slice-read-wide-3
+    wide-requires-3
     cast-t11
     cast-t12
-    cast-t13
     returns)

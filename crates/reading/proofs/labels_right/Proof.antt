@@ -1,53 +1,59 @@
+-- `reading::labels_right` meets its contract. The loop's invariant: the first k labels are right.
+-- Assumes nothing.
+use mathlib.Core.Path.{sym, ap, _∙_}
+use Prim.Native.Nat.{_-_}
 use borrow.Author.Needs.{needs}
 use native.Mathlib.Omega.{arith}
+use Rattle.scheme.specs.Tests.{within}
+use Rattle.format.specs.Reading.{recordAt}
+use Rattle.scheme.proofs.Tests.{failed, passed}
+use Rattle.reading.proofs.Rows.{row-block}
+use Rattle.reading.proofs.Trying.{each-list}
+use Rattle.reading.proofs.Trying.{Trying, try-start, try-turn, try-stop, try-end}
 use Rattle.reading.proofs.labels_right.Statement.{statement}
 use Rattle.reading.proofs.labels_right.Tie as tie
-use Rattle.reading.proofs.labels_right.Reads as reads
-use Rattle.reading.proofs.labels_right.Lts as lts
-use Rattle.reading.proofs.label.Reads as label-reads
-use Rattle.scheme.proofs.between.Reads as between-reads
 
 abbrev Inv-loop : tie.InvT-loop
-Inv-loop file n d k₀ k = ?
+Inv-loop file n d k₀ k = Trying d (λ i. within 1 n (recordAt 1 file i 0)) k
 
 abbrev μ-loop : tie.MeasureT-loop
-μ-loop file n d k₀ k = ?
+μ-loop file n d k₀ k = d - k
 
--- src/lib.rt:252:5
 loop-holds : tie.Need-loop-holds Inv-loop μ-loop
-loop-holds c = search needs
+loop-holds c = try-start _ _
 
--- src/lib.rt:253:13
 label-requires : tie.Need-label-requires Inv-loop μ-loop
-label-requires c κs = search needs
+label-requires c κs = let h = c .before .before .before in row-block (c .before .loop .k) _ _ (omega arith) (h .pre .1)
 
--- src/lib.rt:254:44
 cast-between : tie.Need-cast-between Inv-loop μ-loop
 cast-between c = search needs
 
--- src/lib.rt:254:13
 between-requires : tie.Need-between-requires Inv-loop μ-loop
 between-requires c κs = search needs
 
--- src/lib.rt:255:13
 returns : tie.Need-returns Inv-loop μ-loop
-returns c = search needs
+returns c =
+    let h = c .before .before .before .before .before .before .args in
+    let l = c .before .before .before .before .loop in
+    let t = c .before .between .ensures ∙ ap (within 1 _) (c .before .before .label .ensures) in
+    try-stop (h .d) (λ i. within 1 (h .n) (recordAt 1 (h .file .now) i 0)) (l .k) (omega arith) (failed t (c .if1 .taken)) ∙ sym (each-list (within 1 (h .n)) (h .d) (λ i. recordAt 1 (h .file .now) i 0))
 
--- src/lib.rt:257:9
 add-k : tie.Need-add-k Inv-loop μ-loop
 add-k c = search needs
 
--- src/lib.rt:252:5
 loop-less : tie.Need-loop-less Inv-loop μ-loop
 loop-less c = search needs
 
--- src/lib.rt:252:5
 loop-again : tie.Need-loop-again Inv-loop μ-loop
-loop-again c = search needs
+loop-again c = let l = c .before .before .before .before .loop in
+    let t = c .before .between .ensures ∙ ap (within 1 _) (c .before .before .label .ensures) in
+    try-turn _ _ (l .k) (l .inv) (omega arith) (passed t (c .if1 .left))
 
--- src/lib.rt:247:1
 returns-2 : tie.Need-returns-2 Inv-loop μ-loop
-returns-2 c = search needs
+returns-2 c =
+    let h = c .before .before .before .args in
+    let l = c .before .loop in
+    try-end _ _ (l .k) (l .inv) (omega arith) ∙ sym (each-list (within 1 (h .n)) (h .d) (λ i. recordAt 1 (h .file .now) i 0))
 
 pub labels-right-spec : {M : Type 1} → statement M
 labels-right-spec =

@@ -1,17 +1,16 @@
+-- `reading::length_right` meets its contract by its two branches.
+-- Assumes nothing.
 use borrow.Author.Needs.{needs}
 use native.Mathlib.Omega.{arith}
+use borrow.Author.Tests.{eq-eqb, ne-eqb}
 use Rattle.reading.proofs.length_right.Statement.{statement}
 use Rattle.reading.proofs.length_right.Tie as tie
-use Rattle.reading.proofs.length_right.Reads as reads
-use Rattle.reading.proofs.length_right.Lts as lts
 
--- src/lib.rt:282:9
 returns : tie.Need-returns
-returns c = search needs
+returns c = simp (eq-eqb (c .before .args .size) 1024 (c .if1 .taken))
 
--- src/lib.rt:278:1
 returns-2 : tie.Need-returns-2
-returns-2 c = search needs
+returns-2 c = simp (ne-eqb (c .before .args .size) 1024 (c .if1 .left))
 
 pub length-right-spec : {M : Type 1} → statement M
 length-right-spec = tie.close (tie.spec returns returns-2)

@@ -1,51 +1,48 @@
+-- `reading::same_at` meets its contract. The loop's invariant: the first o bytes are the word's.
+-- Assumes nothing.
+use Prim.Native.Nat.{_+_, _-_}
+use lib.ListN.{length}
 use borrow.Author.Needs.{needs}
 use native.Mathlib.Omega.{arith}
+use lib.Dec.{eqb}
+use borrow.Author.Tests.{eq-eqb, ne-eqb}
+use Rattle.linear.specs.Flat.{place}
+use Rattle.reading.proofs.Trying.{Trying, try-start, try-turn, try-stop, try-end}
 use Rattle.reading.proofs.same_at.Statement.{statement}
 use Rattle.reading.proofs.same_at.Tie as tie
-use Rattle.reading.proofs.same_at.Reads as reads
-use Rattle.reading.proofs.same_at.Lts as lts
 
 abbrev Inv-loop : tie.InvT-loop
-Inv-loop bytes at word o₀ o = ?
+Inv-loop bytes at word o₀ o = Trying (length word) (λ k. eqb (place bytes (at + k)) (place word k)) o
 
 abbrev μ-loop : tie.MeasureT-loop
-μ-loop bytes at word o₀ o = ?
+μ-loop bytes at word o₀ o = length word - o
 
--- src/lib.rt:96:5
 loop-holds : tie.Need-loop-holds Inv-loop μ-loop
-loop-holds c = search needs
+loop-holds c = try-start _ _
 
--- src/lib.rt:97:18
 add-if1 : tie.Need-add-if1 Inv-loop μ-loop
 add-if1 c = search needs
 
--- src/lib.rt:97:12
 shared-slice-read-if1 : tie.Need-shared-slice-read-if1 Inv-loop μ-loop
 shared-slice-read-if1 c = search needs
 
--- src/lib.rt:97:29
 shared-slice-read-if1-2 : tie.Need-shared-slice-read-if1-2 Inv-loop μ-loop
 shared-slice-read-if1-2 c = search needs
 
--- src/lib.rt:98:13
 returns : tie.Need-returns Inv-loop μ-loop
-returns c = search needs
+returns c = let l = c .before .before .before .before .loop in try-stop _ _ (l .o) (omega arith) (ne-eqb _ _ (c .if1 .taken))
 
--- src/lib.rt:100:9
 add-o : tie.Need-add-o Inv-loop μ-loop
 add-o c = search needs
 
--- src/lib.rt:96:5
 loop-less : tie.Need-loop-less Inv-loop μ-loop
 loop-less c = search needs
 
--- src/lib.rt:96:5
 loop-again : tie.Need-loop-again Inv-loop μ-loop
-loop-again c = search needs
+loop-again c = let l = c .before .before .before .before .loop in try-turn _ _ (l .o) (l .inv) (omega arith) (eq-eqb _ _ (c .if1 .left))
 
--- src/lib.rt:91:1
 returns-2 : tie.Need-returns-2 Inv-loop μ-loop
-returns-2 c = search needs
+returns-2 c = let l = c .before .loop in try-end _ _ (l .o) (l .inv) (omega arith)
 
 pub same-at-spec : {M : Type 1} → statement M
 same-at-spec =

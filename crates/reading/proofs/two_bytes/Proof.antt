@@ -1,51 +1,34 @@
+-- `reading::two_bytes` meets its contract.
+-- Assumes nothing.
 use native.Mathlib.Omega.{arith}
 use borrow.Author.Needs.{needs}
+use Rattle.reading.proofs.Numbers.{number-two}
 use Rattle.reading.proofs.two_bytes.Statement.{statement}
 use Rattle.reading.proofs.two_bytes.Tie as tie
-use Rattle.reading.proofs.two_bytes.Reads as reads
-use Rattle.reading.proofs.two_bytes.Lts as lts
 
--- src/lib.rt:32:15
-shared-slice-read-low : tie.Need-shared-slice-read-low
-shared-slice-read-low c = search needs
+shared-slice-read-number : tie.Need-shared-slice-read-number
+shared-slice-read-number c = search needs
 
--- src/lib.rt:33:22
-add-high : tie.Need-add-high
-add-high c = search needs
+add-number : tie.Need-add-number
+add-number c = search needs
 
--- src/lib.rt:33:16
-shared-slice-read-high : tie.Need-shared-slice-read-high
-shared-slice-read-high c = search needs
+shared-slice-read-number-2 : tie.Need-shared-slice-read-number-2
+shared-slice-read-number-2 c = search needs
 
--- src/lib.rt:34:6
-cast-result : tie.Need-cast-result
-cast-result c = search needs
+number-requires : tie.Need-number-requires
+number-requires c κs = search needs
 
--- src/lib.rt:34:27
-cast-result-2 : tie.Need-cast-result-2
-cast-result-2 c = search needs
-
--- src/lib.rt:34:20
-mul-result : tie.Need-mul-result
-mul-result c = search needs
-
--- src/lib.rt:34:5
-add-result : tie.Need-add-result
-add-result c = search needs
-
--- src/lib.rt:28:1
 returns : tie.Need-returns
-returns c = search needs
+returns c =
+    let h = c .before .before .before .before .args in
+    (number-two (h .bytes .now) (h .at) _ (c .number .ensures .0), c .number .ensures .1)
 
 pub two-bytes-spec : {M : Type 1} → statement M
 two-bytes-spec =
     tie.close
     (tie.spec
-    shared-slice-read-low
-    add-high
-    shared-slice-read-high
-    cast-result
-    cast-result-2
-    mul-result
-    add-result
+    shared-slice-read-number
+    add-number
+    shared-slice-read-number-2
+    number-requires
     returns)
