@@ -1,5 +1,5 @@
 pub mod Tests
 pub mod Refusals
 pub mod Outcomes
-pub mod Over
 pub mod Settled
+pub mod Over
