@@ -1,6 +1,6 @@
 -- Of a scheme that is not refused, each byte of its file is below 256 and each check has four bytes.
 -- Assumes nothing.
-use mathlib.Core.Path.{_≡_, refl, subst⁻¹}
+use mathlib.Core.Path.{subst⁻¹}
 use mathlib.Core.Bool.{Bool, true, false, cond}
 use mathlib.Core.Logic.{⊎-elim}
 use mathlib.Core.List.{List}
@@ -8,14 +8,13 @@ use Prim.Native.Nat.{ℕ, zero, suc, _<_, _≤_, _+_, _-_, _*_, _/_, _%_, _^_}
 use native.Mathlib.Nat.{mul-le-mul}
 use native.Mathlib.Omega.{arith}
 use lib.Dec.{eqb, ltb}
-use lib.ListN.{length}
 use Rattle.algebra.proofs.Cases.{lt-or-ge}
 use Rattle.lists.proofs.Store.{past}
 use Rattle.linear.specs.Combination.{total}
 use Rattle.linear.specs.Flat.{place, entry}
 use Rattle.scheme.specs.declared.Shape.{Shape}
 use Rattle.scheme.proofs.Refusals.{Valid}
-use Rattle.format.specs.Format.{byteOf, mark, kindOf, width, used, rowOf, inRecord}
+use Rattle.format.specs.Format.{mark, kindOf, width, used, rowOf, inRecord}
 use Rattle.format.specs.Format.{headingByte, recordByte, contentByte, frontByte, checkOf, blockByte}
 use Rattle.format.proofs.Bytes.{byte-below}
 

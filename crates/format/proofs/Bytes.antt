@@ -1,6 +1,6 @@
 -- A number of w bytes and its bytes are the same: the bytes of a number add up to it, and each byte of a sum of bytes is that byte.
 -- Assumes nothing.
-use mathlib.Core.Path.{_≡_, refl, sym, ap, subst⁻¹, _∙_}
+use mathlib.Core.Path.{_≡_, sym, ap, subst⁻¹, _∙_}
 use mathlib.Core.Logic.{⊎-elim}
 use Prim.Native.Nat.{ℕ, zero, suc, _<_, _≤_, _+_, _-_, _*_, _/_, _%_, _^_}
 use native.Mathlib.Nat.{mod-lt, mod-eq-of-lt, mod-one, div-add-mod', div-eq-of-lt, mul-le-mul, one-le-pow, pow-suc}

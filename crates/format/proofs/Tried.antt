@@ -1,8 +1,9 @@
--- The definitions tried: example L of document 01.
+-- The definitions tried: example L of document 01, and a check that is above 65535.
 -- Assumes nothing.
 use mathlib.Core.Path.{_≡_, refl}
 use mathlib.Core.List.{List, [], _∷_}
 use Prim.Native.Nat.{ℕ}
+use lib.ListN.{replicate}
 use Rattle.scheme.specs.declared.Shape.{Shape}
 use Rattle.format.specs.Format.{checkOf}
 
@@ -21,3 +22,10 @@ heading-check = refl
 
 pub rows-check : checkOf 1 shape labels entries 1 ≡ 6524
 rows-check = refl
+
+-- "not reduced": one row of twelve entries 65520, p = 65521. The check is above 65535.
+abbrev wide : Shape
+wide = record { p = 65521; n = 1; d = 1; e = 12 }
+
+pub check-not-reduced : checkOf 1 wide (1 ∷ []) (replicate 12 65520) 1 ≡ 128636
+check-not-reduced = refl

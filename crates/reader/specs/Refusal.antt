@@ -11,7 +11,7 @@ use Rattle.rules.specs.Tree.{Rule, ruleNames}
 use Rattle.rules.specs.Text.{IsRule, NoRule}
 use Rattle.rules.specs.Construction.{columns}
 
--- 14: "rule names someone above n"; 15, 16: "rule needs over 32 rows; over 12 columns". 0 is no refusal.
+-- 14: "rule names someone above n"; 15, 16: "rule needs over 32 rows; over 12 columns", one row for each number written. 0 is no refusal.
 abbrev pub ruleRefusal : ℕ → Rule → ℕ
 ruleRefusal n r =
     orElse (unless (each (λ i. leb i n) (ruleNames r)) 14)

@@ -206,7 +206,8 @@ module _ (p : ℕ) (H : Prime p) where
       let o : n < p = omega arith in
       omega (arith, q, mod-eq-of-lt o, zero-mod p)
 
--- "A set is open exactly when the rule is true for it": for a rule whose choices k of m rules have k at least 1 and m below p.
+-- The matrix of a rule is open, for any choice of members, exactly when the rule is true for them: for a rule whose choices k of m rules have
+-- k at least 1 and m below p. For a scheme and its sets: `built-opens` of rule/proofs/Says.antt.
 pub rule-opens : (p : ℕ) → Prime p → (r : Rule) (member : ℕ → Bool) → RuleGroups (Small p) r
     → Open p (length (rows p r)) (columns r) (rowEntry (rows p r)) (λ k. member (rowLabel (rows p r) k)) ↔ (ruleHolds member r ≡ true)
 rule-opens p H r member f = opens-iff p H member r (rule-map (Small p) (Fit (K p H)) (λ k m h. (h .0, above p H m (h .1))) r f)

@@ -8,7 +8,8 @@ use lib.Dec.{ltb}
 use lib.ListN.{length}
 use Rattle.rules.specs.Tree.{Rule, Term, Atom, Rules, term, _or_, atom, _and_, number, group, choice, rule, _comma_}
 
--- The signs as bytes: `|`, `&`, the two parentheses; the comma and the `o` of the second edition.
+-- The four signs as bytes: `|`, `&`, the two parentheses. The comma and the `o` are the second edition's; in the first they are neither
+-- digit nor sign.
 abbrev pub bar : ℕ
 bar = 124
 
@@ -27,7 +28,7 @@ separator = 44
 abbrev pub letter-o : ℕ
 letter-o = 111
 
--- A number from 1 to 16 in digits, "without leading zero": one digit below 10, else the digit 1 and the second.
+-- A number from 1 to 16 in digits, "without leading zero": one digit below 10, else the digit 1 and that of i - 10.
 unfoldable pub numeral : ℕ → List ℕ
 numeral i = cond (ltb i 10) ((48 + i) ∷ []) (49 ∷ (38 + i) ∷ [])
 
@@ -64,7 +65,8 @@ abbrev mutual
   WellAtom (group r) d = (1 ≤ d) × WellRule r (d - 1)
   WellAtom (choice k b) d = ⊥
 
--- The text t is the rule r: "a text of 1 to 256 bytes without spaces", "at most 8 parentheses are open at any place".
+-- The text t is the rule r: "a text of 1 to 256 bytes without spaces" (no rule's text has one), "at most 8 parentheses are open at any
+-- place".
 pub record IsRule (t : List ℕ) (r : Rule) : Type 0 where
   pub text : t ≡ ruleText r
   pub well : WellRule r 8

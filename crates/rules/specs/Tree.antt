@@ -51,7 +51,7 @@ module _ (member : ℕ → Bool) where
     howMany (rule r) = cond (ruleHolds r) 1 0
     howMany (r comma b) = cond (ruleHolds r) 1 0 + howMany b
 
--- The numbers that a rule names, in the order of the text.
+-- The numbers that a rule names, each as often as it is written, in the order of the text: one for each row.
 unfoldable mutual
   pub ruleNames : Rule → List ℕ
   ruleNames (term t) = termNames t

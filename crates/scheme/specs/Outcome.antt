@@ -16,6 +16,7 @@ abbrev pub leftAt : ℕ → List ℕ → List ℕ → List ℕ
 leftAt zero old new = new
 leftAt (suc k) old new = old
 
--- "writes the first d and d times e, leaves the other places unchanged": new numbers over the first places of old.
+-- "writes the first d and d times e, leaves the other places unchanged": new numbers over the first places of old,
+-- of which there are never fewer.
 abbrev pub over : List ℕ → List ℕ → List ℕ
 over new old = new ++ drop (length new) old
