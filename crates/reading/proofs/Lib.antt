@@ -6,3 +6,6 @@ pub mod Rows
 pub mod Sums
 pub mod Marks
 pub mod Headings
+pub mod Overs
+pub mod Order
+pub mod Settled

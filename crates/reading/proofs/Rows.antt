@@ -3,7 +3,7 @@
 use mathlib.Core.Path.{_≡_, sym, ap, _∙_}
 use mathlib.Core.List.{List}
 use Prim.Native.Nat.{ℕ, _+_, _*_, _/_, _%_, _<_, _≤_}
-use native.Mathlib.Nat.{mod-lt, div-lt-iff-lt-mul}
+use native.Mathlib.Nat.{mod-lt}
 use native.Mathlib.Omega.{arith}
 use Rattle.linear.specs.Flat.{place}
 use Rattle.format.specs.Format.{numberOf, blocks}
@@ -12,12 +12,8 @@ use Rattle.reading.specs.Parts.{contentOf, entryAt}
 use Rattle.reading.proofs.Contents.{content-at}
 use Rattle.reading.proofs.Numbers.{number-same}
 
-pub row-block : (k d m : ℕ) → k < d → 512 * blocks 1 d ≤ m → 512 * (1 + k / 20) + 512 ≤ m
-row-block k d m l h = omega arith
-
--- Entry i of d rows of e entries is in row i / e.
-pub entry-row : (i d e : ℕ) → 0 < e → i < d * e → i / e < d
-entry-row i d e l h = div-lt-iff-lt-mul {k = e} {x = i} {y = d} l .1 h
+pub row-inside : (k d m : ℕ) → k < d → 512 * blocks 1 d ≤ m → 512 * (1 + k / 20) + 512 ≤ m
+row-inside k d m l h = omega arith
 
 module _ (file : List ℕ) (k : ℕ) where
   -- Byte m of the record of row k, in the content of the row's block.

@@ -6,10 +6,11 @@ use Prim.Native.Nat.{ℕ, _+_, _*_, _/_, _%_}
 use lib.Dec.{eqb}
 use lib.ListN.{length, take, drop}
 use Rattle.linear.specs.Combination.{total}
+use Rattle.scheme.specs.declared.Shape.{Shape}
 use Rattle.scheme.specs.Tests.{unless, orElse}
 use Rattle.scheme.specs.Refusal.{numbersRefusal, contentRefusal}
 use Rattle.format.specs.Format.{numberOf}
-use Rattle.format.specs.Reading.{allBelow, byteAt, checkRight, marksRight, shapeAt, recordAt, labelsAt, entriesAt, blockCount, restRight}
+use Rattle.format.specs.Reading.{allBelow, byteAt, checkRight, marksRight, recordAt, labelsAt, entriesAt, blockCount, restRight}
 
 -- Bytes 8 to 507 of block b.
 unfoldable pub contentOf : List ℕ → ℕ → List ℕ
@@ -35,10 +36,9 @@ blocksRefusal file labelPlaces entryPlaces =
     (orElse (unless (allBelow (blockCount 1 file) (checkRight 1 file)) 18)
     (unless (allBelow (blockCount 1 file) (marksRight 1 file)) 19)))
 
--- 1 to 4, 20, 6 and 7.
-unfoldable pub schemeRefusal : List ℕ → ℕ
-schemeRefusal file =
-    orElse (numbersRefusal (shapeAt 1 file))
-    (orElse (unless (restRight 1 file (shapeAt 1 file)) 20)
-    (contentRefusal (shapeAt 1 file .p) (shapeAt 1 file .n) (labelsAt 1 file (shapeAt 1 file .d))
-    (entriesAt 1 file (shapeAt 1 file .d) (shapeAt 1 file .e))))
+-- 1 to 4, 20, 6 and 7, for the numbers of the heading.
+unfoldable pub schemeRefusal : List ℕ → Shape → ℕ
+schemeRefusal file s =
+    orElse (numbersRefusal s)
+    (orElse (unless (restRight 1 file s) 20)
+    (contentRefusal (s .p) (s .n) (labelsAt 1 file (s .d)) (entriesAt 1 file (s .d) (s .e))))

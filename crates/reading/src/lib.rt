@@ -166,7 +166,12 @@ fn heading(file: &[u8]) -> Shape
     let n = wide(c[2]);
     let d = wide(c[3]);
     let e = wide(c[4]);
-    Shape { p: p, n: n, d: d as usize, e: e as usize }
+    Shape {
+        p: p,
+        n: n,
+        d: d as usize,
+        e: e as usize,
+    }
 }
 
 // Whether a place of a block's content has a use.
@@ -317,7 +322,7 @@ fn blocks_refusal(file: &[u8], labels: usize, entries: usize) -> u32
 // 1 to 4, 20, 6 and 7.
 fn scheme_refusal(file: &[u8]) -> u32
     requires { ⌜ (512 ≤ length (now file)) × (length (now file) ≤ 1536) ⌝ }
-    ensures { λ r. ⌜ r ≡ schemeRefusal (now (file .entry)) ⌝ }
+    ensures { λ r. ⌜ r ≡ schemeRefusal (now (file .entry)) (shapeAt 1 (now (file .entry))) ⌝ }
 {
     let s = heading(file);
     let bad = scheme::numbers_refusal(s);

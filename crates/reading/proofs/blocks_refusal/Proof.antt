@@ -1,49 +1,45 @@
-use native.Mathlib.Omega.{arith}
+-- `reading::blocks_refusal` meets its contract: at each return the tests before it passed, and its own failed.
+-- Assumes nothing.
 use borrow.Author.Needs.{needs}
+use Rattle.reading.specs.Parts.{blocksRefusal}
+use Rattle.scheme.proofs.Tests.{failed, passed}
+use Rattle.reading.proofs.Order.{fails, passes, last-fails, last-passes}
 use Rattle.reading.proofs.blocks_refusal.Statement.{statement}
 use Rattle.reading.proofs.blocks_refusal.Tie as tie
-use Rattle.reading.proofs.blocks_refusal.Reads as reads
-use Rattle.reading.proofs.blocks_refusal.Lts as lts
-use Rattle.reading.proofs.checks_right.Reads as checks-right-reads
-use Rattle.reading.proofs.length_right.Reads as length-right-reads
-use Rattle.reading.proofs.marks_right.Reads as marks-right-reads
-use Rattle.scheme.proofs.both_same.Reads as both-same-reads
 
--- src/lib.rt:301:9
 both-same-requires : tie.Need-both-same-requires
 both-same-requires c κs = search needs
 
--- src/lib.rt:302:9
 returns : tie.Need-returns
-returns c = search needs
+unfolding blocksRefusal
+returns c = fails 4 _ (failed (c .before .both-same .ensures) (c .if1 .taken))
 
--- src/lib.rt:304:9
 length-right-requires : tie.Need-length-right-requires
 length-right-requires c κs = search needs
 
--- src/lib.rt:305:9
 returns-2 : tie.Need-returns-2
-returns-2 c = search needs
+unfolding blocksRefusal
+returns-2 c = passes 5 _ (passed (c .before .before .before .both-same .ensures) (c .before .before .if1 .left)) (fails 16 _ (failed (c .before .length-right .ensures) (c .if2 .taken)))
 
--- src/lib.rt:308:9
 checks-right-requires : tie.Need-checks-right-requires
 checks-right-requires c κs = search needs
 
--- src/lib.rt:309:9
 returns-3 : tie.Need-returns-3
-returns-3 c = search needs
+unfolding blocksRefusal
+returns-3 c = passes 5 _ (passed (c .before .before .before .before .before .both-same .ensures) (c .before .before .before .before .if1 .left)) (passes 17 _ (passed (c .before .before .before .length-right .ensures) (c .before .before .if2 .left)) (fails 17 _ (failed (c .before .checks-right .ensures) (c .if3 .taken))))
 
--- src/lib.rt:311:9
 marks-right-requires : tie.Need-marks-right-requires
 marks-right-requires c κs = search needs
 
--- src/lib.rt:312:9
 returns-4 : tie.Need-returns-4
-returns-4 c = search needs
+unfolding blocksRefusal
+returns-4 c = passes 5 _ (passed (c .before .before .before .before .before .before .before .both-same .ensures) (c .before .before .before .before .before .before .if1 .left))
+    (passes 17 _ (passed (c .before .before .before .before .before .length-right .ensures) (c .before .before .before .before .if2 .left)) (passes 18 _ (passed (c .before .before .before .checks-right .ensures) (c .before .before .if3 .left)) (last-fails 19 (failed (c .before .marks-right .ensures) (c .if4 .taken)))))
 
--- src/lib.rt:298:1
 returns-5 : tie.Need-returns-5
-returns-5 c = search needs
+unfolding blocksRefusal
+returns-5 c = passes 5 _ (passed (c .before .before .before .before .before .before .before .both-same .ensures) (c .before .before .before .before .before .before .if1 .left))
+    (passes 17 _ (passed (c .before .before .before .before .before .length-right .ensures) (c .before .before .before .before .if2 .left)) (passes 18 _ (passed (c .before .before .before .checks-right .ensures) (c .before .before .if3 .left)) (last-passes 19 (passed (c .before .marks-right .ensures) (c .if4 .left)))))
 
 pub blocks-refusal-spec : {M : Type 1} → statement M
 blocks-refusal-spec =

@@ -1,6 +1,5 @@
 -- `reading::check_right` meets its contract.
 -- Assumes nothing.
-use native.Mathlib.Omega.{arith}
 use borrow.Author.Needs.{needs}
 use Rattle.reading.specs.Parts.{checkSum}
 use Rattle.reading.proofs.Sums.{check-right}

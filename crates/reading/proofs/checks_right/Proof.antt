@@ -1,8 +1,8 @@
 -- `reading::checks_right` meets its contract. The loop's invariant: the first b blocks pass the test.
 -- Assumes nothing.
 use Prim.Native.Nat.{_-_}
-use borrow.Author.Needs.{needs}
 use native.Mathlib.Omega.{arith}
+use borrow.Author.Needs.{needs}
 use Rattle.format.specs.Reading.{checkRight}
 use Rattle.scheme.proofs.Tests.{failed, passed}
 use Rattle.reading.proofs.Trying.{Trying, try-start, try-turn, try-stop, try-end}

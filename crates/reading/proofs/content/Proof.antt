@@ -1,7 +1,6 @@
 -- `reading::content` meets its contract: the part from start to end is 500 bytes long.
 -- Assumes nothing.
 use mathlib.Core.Path.{refl}
-use native.Mathlib.Omega.{arith}
 use borrow.Author.Needs.{needs}
 use Rattle.reading.proofs.Contents.{content-part}
 use Rattle.reading.proofs.content.Statement.{statement}

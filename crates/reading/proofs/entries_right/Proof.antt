@@ -2,13 +2,14 @@
 -- Assumes nothing.
 use mathlib.Core.Path.{sym, ap, _∙_}
 use Prim.Native.Nat.{ℕ, _*_, _-_, _/_}
-use borrow.Author.Needs.{needs}
 use native.Mathlib.Omega.{arith}
+use borrow.Author.Needs.{needs}
 use lib.Dec.{ltb}
 use borrow.Author.Tests.{lt-ltb, le-ltb}
 use native.Mathlib.Nat.{mul-le-mul}
 use Rattle.reading.specs.Parts.{entryAt}
-use Rattle.reading.proofs.Rows.{row-block, entry-row}
+use Rattle.format.proofs.Records.{row-below}
+use Rattle.reading.proofs.Rows.{row-inside}
 use Rattle.reading.proofs.Trying.{each-list}
 use Rattle.reading.proofs.Trying.{Trying, try-start, try-turn, try-stop, try-end}
 use Rattle.reading.proofs.entries_right.Statement.{statement}
@@ -29,7 +30,7 @@ loop-holds c = try-start _ _
 entry-requires : tie.Need-entry-requires Inv-loop μ-loop
 entry-requires c κs = let h = c .before .before .before in
     let i = c .before .loop .i in
-    (h .pre .1, h .pre .2, row-block (i / h .args .e) _ _ (entry-row i (h .args .d) (h .args .e) (h .pre .1) (omega arith)) (h .pre .3))
+    (h .pre .1, h .pre .2, row-inside (i / h .args .e) _ _ (row-below i (h .args .d) (h .args .e) (omega arith)) (h .pre .3))
 
 returns : tie.Need-returns Inv-loop μ-loop
 returns c =

@@ -1,13 +1,14 @@
 -- `reading::fill_entries` meets its contract. The loop's invariant: the first i places hold the first i entries.
 -- Assumes nothing.
 use Prim.Native.Nat.{_*_, _-_, _/_}
-use borrow.Author.Needs.{needs}
 use native.Mathlib.Omega.{arith}
+use borrow.Author.Needs.{needs}
 use Rattle.reading.specs.Parts.{entryAt}
 use Rattle.format.specs.Reading.{entriesAt}
 use Rattle.lists.proofs.Fill.{Filled, fill-start, fill-turn}
-use Rattle.scheme.proofs.Over.{filled-over}
-use Rattle.reading.proofs.Rows.{row-block, entry-row}
+use Rattle.reading.proofs.Overs.{filled-over}
+use Rattle.format.proofs.Records.{row-below}
+use Rattle.reading.proofs.Rows.{row-inside}
 use Rattle.reading.proofs.fill_entries.Statement.{statement}
 use Rattle.reading.proofs.fill_entries.Tie as tie
 
@@ -26,7 +27,7 @@ loop-holds c = fill-start _ _ _ _
 entry-requires : tie.Need-entry-requires Inv-loop μ-loop
 entry-requires c κs = let h = c .before .before .before .before in
     let i = c .before .loop .i in
-    (h .pre .0, h .pre .1, row-block (i / h .args .e) _ _ (entry-row i (h .args .d) (h .args .e) (h .pre .0) (omega arith)) (h .pre .3))
+    (h .pre .0, h .pre .1, row-inside (i / h .args .e) _ _ (row-below i (h .args .d) (h .args .e) (omega arith)) (h .pre .3))
 
 mul-entries : tie.Need-mul-entries Inv-loop μ-loop
 mul-entries c = omega (arith, c .before .before .loop .inv .size)

@@ -1,12 +1,12 @@
 -- `reading::fill_labels` meets its contract. The loop's invariant: the first k places hold the first k labels.
 -- Assumes nothing.
 use Prim.Native.Nat.{_-_}
-use borrow.Author.Needs.{needs}
 use native.Mathlib.Omega.{arith}
+use borrow.Author.Needs.{needs}
 use Rattle.format.specs.Reading.{recordAt, labelsAt}
 use Rattle.lists.proofs.Fill.{Filled, fill-start, fill-turn}
-use Rattle.scheme.proofs.Over.{filled-over}
-use Rattle.reading.proofs.Rows.{row-block}
+use Rattle.reading.proofs.Overs.{filled-over}
+use Rattle.reading.proofs.Rows.{row-inside}
 use Rattle.reading.proofs.fill_labels.Statement.{statement}
 use Rattle.reading.proofs.fill_labels.Tie as tie
 
@@ -20,7 +20,7 @@ loop-holds : tie.Need-loop-holds Inv-loop μ-loop
 loop-holds c = fill-start _ _ _ _
 
 label-requires : tie.Need-label-requires Inv-loop μ-loop
-label-requires c κs = let h = c .before .before .before .before in row-block (c .before .loop .k) _ _ (omega arith) (h .pre .1)
+label-requires c κs = let h = c .before .before .before .before in row-inside (c .before .loop .k) _ _ (omega arith) (h .pre .1)
 
 mul-labels : tie.Need-mul-labels Inv-loop μ-loop
 mul-labels c = omega (arith, c .before .before .loop .inv .size)

@@ -1,6 +1,5 @@
 -- `reading::four_bytes` meets its contract: the number of the low two bytes and that of the high two.
 -- Assumes nothing.
-use native.Mathlib.Omega.{arith}
 use borrow.Author.Needs.{needs}
 use Rattle.reading.proofs.Numbers.{number-four}
 use Rattle.reading.proofs.four_bytes.Statement.{statement}

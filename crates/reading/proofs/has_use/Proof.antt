@@ -1,6 +1,5 @@
 -- `reading::has_use` meets its contract.
 -- Assumes nothing.
-use native.Mathlib.Omega.{arith}
 use borrow.Author.Needs.{needs}
 use Rattle.reading.proofs.Uses.{use-heading, use-past, use-row}
 use Rattle.reading.proofs.has_use.Statement.{statement}

@@ -1,9 +1,9 @@
 -- `reading::heading` meets its contract: the numbers stand in the content of block 0.
 -- Assumes nothing.
-use native.Mathlib.Omega.{arith}
-use borrow.Author.Needs.{needs}
 use mathlib.Core.Path.{ap}
 use lib.ListN.{length}
+use native.Mathlib.Omega.{arith}
+use borrow.Author.Needs.{needs}
 use Rattle.reading.proofs.Contents.{content-length}
 use Rattle.reading.proofs.Headings.{heading-shape}
 use Rattle.reading.proofs.heading.Statement.{statement}

@@ -1,7 +1,5 @@
 -- `reading::kind` meets its contract.
 -- Assumes nothing.
-use native.Mathlib.Omega.{arith}
-use borrow.Author.Needs.{needs}
 use Rattle.reading.proofs.Uses.{kind-heading, kind-rows}
 use Rattle.reading.proofs.kind.Statement.{statement}
 use Rattle.reading.proofs.kind.Tie as tie

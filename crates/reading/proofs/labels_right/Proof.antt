@@ -2,12 +2,12 @@
 -- Assumes nothing.
 use mathlib.Core.Path.{sym, ap, _∙_}
 use Prim.Native.Nat.{_-_}
-use borrow.Author.Needs.{needs}
 use native.Mathlib.Omega.{arith}
+use borrow.Author.Needs.{needs}
 use Rattle.scheme.specs.Tests.{within}
 use Rattle.format.specs.Reading.{recordAt}
 use Rattle.scheme.proofs.Tests.{failed, passed}
-use Rattle.reading.proofs.Rows.{row-block}
+use Rattle.reading.proofs.Rows.{row-inside}
 use Rattle.reading.proofs.Trying.{each-list}
 use Rattle.reading.proofs.Trying.{Trying, try-start, try-turn, try-stop, try-end}
 use Rattle.reading.proofs.labels_right.Statement.{statement}
@@ -23,7 +23,7 @@ loop-holds : tie.Need-loop-holds Inv-loop μ-loop
 loop-holds c = try-start _ _
 
 label-requires : tie.Need-label-requires Inv-loop μ-loop
-label-requires c κs = let h = c .before .before .before in row-block (c .before .loop .k) _ _ (omega arith) (h .pre .1)
+label-requires c κs = let h = c .before .before .before in row-inside (c .before .loop .k) _ _ (omega arith) (h .pre .1)
 
 cast-between : tie.Need-cast-between Inv-loop μ-loop
 cast-between c = search needs

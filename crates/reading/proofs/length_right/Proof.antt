@@ -1,7 +1,5 @@
 -- `reading::length_right` meets its contract by its two branches.
 -- Assumes nothing.
-use borrow.Author.Needs.{needs}
-use native.Mathlib.Omega.{arith}
 use borrow.Author.Tests.{eq-eqb, ne-eqb}
 use Rattle.reading.proofs.length_right.Statement.{statement}
 use Rattle.reading.proofs.length_right.Tie as tie

@@ -1,6 +1,5 @@
 -- `reading::mark_right` meets its contract: at each return the tests before it passed.
 -- Assumes nothing.
-use native.Mathlib.Omega.{arith}
 use borrow.Author.Needs.{needs}
 use Rattle.scheme.proofs.Tests.{failed, passed}
 use Rattle.reading.proofs.Marks.{mark-wrong, kind-wrong, version-wrong, number-last}

@@ -1,45 +1,52 @@
-use native.Mathlib.Omega.{arith}
+-- `reading::read` meets its contract: a refused call has lent the lists to nothing, and one that is not refused has what the two fillings require.
+-- Assumes nothing.
+use mathlib.Core.Path.{refl, sym}
+use lib.ListN.{length}
 use borrow.Author.Needs.{needs}
+use Rattle.scheme.proofs.Refusals.{gone}
+use Rattle.reading.specs.Says.{ReadSays}
+use Rattle.reading.proofs.Order.{heading-there, positive, ready}
 use Rattle.reading.proofs.read.Statement.{statement}
 use Rattle.reading.proofs.read.Tie as tie
-use Rattle.reading.proofs.read.Reads as reads
-use Rattle.reading.proofs.read.Lts as lts
-use Rattle.reading.proofs.fill_entries.Reads as fill-entries-reads
-use Rattle.reading.proofs.fill_labels.Reads as fill-labels-reads
-use Rattle.reading.proofs.heading.Reads as heading-reads
-use Rattle.reading.proofs.refusal.Reads as refusal-reads
 
--- src/lib.rt:377:9
 refusal-requires : tie.Need-refusal-requires
 refusal-requires c κs = search needs
 
--- src/lib.rt:379:9
 returns : tie.Need-returns
-returns c = search needs
+unfolding ReadSays
+returns c = (sym (c .before .refusal .ensures), positive _ (c .if1 .taken), refl, refl)
 
--- src/lib.rt:381:9
 heading-requires : tie.Need-heading-requires
-heading-requires c κs = search needs
+heading-requires c κs =
+    let a = c .before .before .before .before .before .args in
+    heading-there (a .file .now) (length (a .labels .now)) (length (a .entries .now)) (gone (c .before .refusal .ensures) (c .if1 .left))
 
--- src/lib.rt:382:5
 fill-labels-requires : tie.Need-fill-labels-requires
-fill-labels-requires c κs = search needs
+fill-labels-requires c κs =
+    let a = c .before .before .before .before .before .before .before .args in
+    let h = c .before .before in
+    let q = ready (a .file .now) (length (a .labels .now)) (length (a .entries .now)) _
+    (c .before .heading .ensures) (gone (h .before .refusal .ensures) (h .if1 .left)) in
+    (q .labels-fit, q .blocks-there)
 
--- src/lib.rt:383:5
 fill-entries-requires : tie.Need-fill-entries-requires
-fill-entries-requires c κs = search needs
+fill-entries-requires c κs =
+    let a = c .before .before .before .before .before .before .before .before .before .before .before .args in
+    let h = c .before .before .before .before .before .before in
+    let q = ready (a .file .now) (length (a .labels .now)) (length (a .entries .now)) _
+    (c .before .before .before .before .before .heading .ensures) (gone (h .before .refusal .ensures) (h .if1 .left)) in
+    (q .e-low, q .e-high, q .entries-fit, q .blocks-there)
 
--- src/lib.rt:374:1
 same-length : tie.Need-same-length
 same-length c = search needs
 
--- src/lib.rt:374:1
 same-length-2 : tie.Need-same-length-2
 same-length-2 c = search needs
 
--- src/lib.rt:374:1
 returns-2 : tie.Need-returns-2
-returns-2 c = search needs
+unfolding ReadSays
+returns-2 c = let h = c .before .before .before .before .before .before .before .before .before in
+    (gone (h .before .refusal .ensures) (h .if1 .left), c .before .before .before .before .before .before .before .before .heading .ensures, c .before .before .before .before .before .before .fill-labels .ensures, c .before .before .fill-entries .ensures)
 
 pub read-spec : {M : Type 1} → statement M
 read-spec =

@@ -1,54 +1,59 @@
-use native.Mathlib.Omega.{arith}
+-- `reading::scheme_refusal` meets its contract: at each return the tests before it passed, and its own failed.
+-- Assumes nothing.
+use mathlib.Core.Path.{ap, _∙_}
 use borrow.Author.Needs.{needs}
+use Rattle.reading.specs.Parts.{schemeRefusal}
+use Rattle.scheme.proofs.Tests.{failed, passed}
+use Rattle.scheme.proofs.Refusals.{gone}
+use Rattle.reading.proofs.Order.{numbers-wrong, rest-wrong, labels-wrong, entries-wrong, none-wrong, small, rest-blocks}
 use Rattle.reading.proofs.scheme_refusal.Statement.{statement}
 use Rattle.reading.proofs.scheme_refusal.Tie as tie
-use Rattle.reading.proofs.scheme_refusal.Reads as reads
-use Rattle.reading.proofs.scheme_refusal.Lts as lts
-use Rattle.reading.proofs.entries_right.Reads as entries-right-reads
-use Rattle.reading.proofs.heading.Reads as heading-reads
-use Rattle.reading.proofs.labels_right.Reads as labels-right-reads
-use Rattle.reading.proofs.rest_right.Reads as rest-right-reads
-use Rattle.scheme.proofs.numbers_refusal.Reads as numbers-refusal-reads
 
--- src/lib.rt:322:9
 heading-requires : tie.Need-heading-requires
 heading-requires c κs = search needs
 
--- src/lib.rt:323:9
 numbers-refusal-requires : tie.Need-numbers-refusal-requires
 numbers-refusal-requires c κs = search needs
 
--- src/lib.rt:325:9
 returns : tie.Need-returns
-returns c = search needs
+returns c = let file = c .before .before .before .before .args .file .now in
+    let e = c .before .before .heading .ensures in
+    numbers-wrong file _ (c .before .numbers-refusal .ensures) (c .if1 .taken) ∙ ap (schemeRefusal file) e
 
--- src/lib.rt:327:9
 rest-right-requires : tie.Need-rest-right-requires
-rest-right-requires c κs = search needs
+rest-right-requires c κs = let q = small _ (gone (c .before .numbers-refusal .ensures) (c .if1 .left)) in (q .d-high, q .e-high, c .before .before .before .before .pre .1)
 
--- src/lib.rt:328:9
 returns-2 : tie.Need-returns-2
-returns-2 c = search needs
+returns-2 c = let file = c .before .before .before .before .before .before .args .file .now in
+    let e = c .before .before .before .before .heading .ensures in
+    rest-wrong file _ (gone (c .before .before .before .numbers-refusal .ensures) (c .before .before .if1 .left)) (failed (c .before .rest-right .ensures) (c .if2 .taken)) ∙ ap (schemeRefusal file) e
 
--- src/lib.rt:330:9
 labels-right-requires : tie.Need-labels-right-requires
-labels-right-requires c κs = search needs
+labels-right-requires c κs = let q = small _ (gone (c .before .before .before .numbers-refusal .ensures) (c .before .before .if1 .left)) in (q .d-high, rest-blocks (c .before .before .before .before .before .before .args .file .now) (c .before .before .before .before .heading .result) (passed (c .before .rest-right .ensures) (c .if2 .left)))
 
--- src/lib.rt:331:9
 returns-3 : tie.Need-returns-3
-returns-3 c = search needs
+returns-3 c = let file = c .before .before .before .before .before .before .before .before .args .file .now in
+    let e = c .before .before .before .before .before .before .heading .ensures in
+    labels-wrong file _ (gone (c .before .before .before .before .before .numbers-refusal .ensures) (c .before .before .before .before .if1 .left)) (passed (c .before .before .before .rest-right .ensures) (c .before .before .if2 .left))
+    (failed (c .before .labels-right .ensures) (c .if3 .taken)) ∙ ap (schemeRefusal file) e
 
--- src/lib.rt:333:9
 entries-right-requires : tie.Need-entries-right-requires
-entries-right-requires c κs = search needs
+entries-right-requires c κs = let q = small _ (gone (c .before .before .before .before .before .numbers-refusal .ensures) (c .before .before .before .before .if1 .left)) in
+    (q .d-high, q .e-low, q .e-high, rest-blocks (c .before .before .before .before .before .before .before .before .args .file .now) (c .before .before .before .before .before .before .heading .result) (passed (c .before .before .before .rest-right .ensures) (c .before .before .if2 .left)))
 
--- src/lib.rt:334:9
 returns-4 : tie.Need-returns-4
-returns-4 c = search needs
+returns-4 c = let file = c .before .before .before .before .before .before .before .before .before .before .args .file .now in
+    let e = c .before .before .before .before .before .before .before .before .heading .ensures in
+    entries-wrong file _ (gone (c .before .before .before .before .before .before .before .numbers-refusal .ensures) (c .before .before .before .before .before .before .if1 .left)) (passed (c .before .before .before .before .before .rest-right .ensures) (c .before .before .before .before .if2 .left))
+    (passed (c .before .before .before .labels-right .ensures) (c .before .before .if3 .left))
+    (failed (c .before .entries-right .ensures) (c .if4 .taken)) ∙ ap (schemeRefusal file) e
 
--- src/lib.rt:318:1
 returns-5 : tie.Need-returns-5
-returns-5 c = search needs
+returns-5 c = let file = c .before .before .before .before .before .before .before .before .before .before .args .file .now in
+    let e = c .before .before .before .before .before .before .before .before .heading .ensures in
+    none-wrong file _ (gone (c .before .before .before .before .before .before .before .numbers-refusal .ensures) (c .before .before .before .before .before .before .if1 .left)) (passed (c .before .before .before .before .before .rest-right .ensures) (c .before .before .before .before .if2 .left))
+    (passed (c .before .before .before .labels-right .ensures) (c .before .before .if3 .left))
+    (passed (c .before .entries-right .ensures) (c .if4 .left)) ∙ ap (schemeRefusal file) e
 
 pub scheme-refusal-spec : {M : Type 1} → statement M
 scheme-refusal-spec =

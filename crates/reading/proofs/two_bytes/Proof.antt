@@ -1,6 +1,5 @@
 -- `reading::two_bytes` meets its contract.
 -- Assumes nothing.
-use native.Mathlib.Omega.{arith}
 use borrow.Author.Needs.{needs}
 use Rattle.reading.proofs.Numbers.{number-two}
 use Rattle.reading.proofs.two_bytes.Statement.{statement}

@@ -1,7 +1,6 @@
 -- `reading::zero_or_used` meets its contract by its two branches.
 -- Assumes nothing.
 use mathlib.Core.Path.{sym, _∙_}
-use native.Mathlib.Omega.{arith}
 use borrow.Author.Needs.{needs}
 use Rattle.reading.proofs.zero_or_used.Statement.{statement}
 use Rattle.reading.proofs.zero_or_used.Tie as tie

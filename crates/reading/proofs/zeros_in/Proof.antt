@@ -1,8 +1,8 @@
 -- `reading::zeros_in` meets its contract. The loop's invariant: the first j bytes pass the test.
 -- Assumes nothing.
 use Prim.Native.Nat.{_-_}
-use borrow.Author.Needs.{needs}
 use native.Mathlib.Omega.{arith}
+use borrow.Author.Needs.{needs}
 use mathlib.Core.Bool.{_||_}
 use lib.Dec.{eqb}
 use Rattle.linear.specs.Flat.{place}

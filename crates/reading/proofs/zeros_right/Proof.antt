@@ -3,8 +3,8 @@
 use mathlib.Core.Path.{ap}
 use Prim.Native.Nat.{_-_}
 use lib.ListN.{length}
-use borrow.Author.Needs.{needs}
 use native.Mathlib.Omega.{arith}
+use borrow.Author.Needs.{needs}
 use Rattle.format.specs.Reading.{zerosRight}
 use Rattle.scheme.proofs.Tests.{failed, passed}
 use Rattle.reading.proofs.Contents.{content-length, zeros-content}
