@@ -14,7 +14,8 @@ use Rattle.scheme.specs.Refusal.{numbersRefusal, contentRefusal}
 use Rattle.scheme.proofs.Tests.{within-true}
 use Rattle.scheme.proofs.Refusals.{and-true, stands, orElse-assoc, orElse-zero, unless-zero, numbers, rows-few}
 use Rattle.format.specs.Format.{blocks}
-use Rattle.format.specs.Reading.{allBelow, checkRight, marksRight, shapeAt, labelsAt, entriesAt, zerosRight, blockCount, restRight, readRefusal1}
+use Rattle.format.specs.Reading.{allBelow, checkRight, marksRight, shapeAt, labelsAt, entriesAt}
+use Rattle.format.specs.Reading.{zerosRight, blockCount, restRight, readRefusal1}
 use Rattle.format.proofs.Again.{read}
 use Rattle.reading.specs.Parts.{lengthRight, blocksRefusal, schemeRefusal}
 
@@ -94,7 +95,9 @@ blocks-sized file m n h =
 -- The file has the blocks that d rows need.
 pub rest-blocks : (file : List ℕ) (s : Shape) → restRight 1 file s ≡ true → 512 * blocks 1 (s .d) ≤ length file
 rest-blocks file s t =
-    let q = eqb-true (blockCount 1 file) (blocks 1 (s .d)) (and-true (eqb (blockCount 1 file) (blocks 1 (s .d))) (allBelow (blockCount 1 file) (zerosRight 1 file (s .d) (s .e))) t .0) in
+    let fits = eqb (blockCount 1 file) (blocks 1 (s .d)) in
+    let both = and-true fits (allBelow (blockCount 1 file) (zerosRight 1 file (s .d) (s .e))) t in
+    let q = eqb-true (blockCount 1 file) (blocks 1 (s .d)) (both .0) in
     omega arith
 
 -- The numbers that are not refused.

@@ -10,7 +10,8 @@ ghost use Rattle.linear.specs.Flat.{place};
 ghost use Rattle.scheme.specs.Tests.{within, each, eachBelow};
 ghost use Rattle.scheme.specs.Outcome.{over};
 ghost use Rattle.format.specs.Format.{numberOf, kindOf, used, blocks};
-ghost use Rattle.format.specs.Reading.{allBelow, checkRight, marksRight, shapeAt, recordAt, labelsAt, entriesAt, zerosRight, restRight, readRefusal1};
+ghost use Rattle.format.specs.Reading.{allBelow, checkRight, marksRight, shapeAt, recordAt, labelsAt, entriesAt};
+ghost use Rattle.format.specs.Reading.{zerosRight, restRight, readRefusal1};
 ghost use Rattle.reading.specs.Parts.{contentOf, checkSum, entryAt, lengthRight, blocksRefusal, schemeRefusal};
 ghost use Rattle.reading.specs.Says.{ReadSays};
 
@@ -101,7 +102,8 @@ fn checks_right(file: &[u8], count: usize) -> bool
 // Whether the word stands in the bytes from the place on.
 fn same_at(bytes: &[u8], at: usize, word: &[u8]) -> bool
     requires { ⌜ at + length (now word) ≤ length (now bytes) ⌝ }
-    ensures { λ r. ⌜ r ≡ allBelow (length (now (word .entry))) (λ o. eqb (place (now (bytes .entry)) (at + o)) (place (now (word .entry)) o)) ⌝ }
+    ensures { λ r. ⌜ r ≡ allBelow (length (now (word .entry)))
+        (λ o. eqb (place (now (bytes .entry)) (at + o)) (place (now (word .entry)) o)) ⌝ }
 {
     let mut o = 0;
     while o < word.len() {
@@ -374,10 +376,11 @@ fn fill_entries(file: &[u8], d: usize, e: usize, entries: &mut [u32])
     }
 }
 
-// Reads a scheme file into the two lent lists. Wrong answers that the contract rules out: 19 for a file with a wrong mark in one block and
-// a wrong check in another; a scheme with the list's places past the file's rows set to 0.
+// Reads a scheme file into the two lent lists. Wrong answers that the contract rules out: 19 for a file with a wrong mark in one block and a
+// wrong check in a later one; a scheme with the places past its d labels set to 0.
 pub fn read(file: &[u8], labels: &mut [u32], entries: &mut [u32]) -> Made
-    ensures { λ a. ⌜ ReadSays (now (file .entry)) (now (labels .entry)) (now (entries .entry)) a (now (labels .exit)) (now (entries .exit)) ⌝ }
+    ensures { λ a. ⌜ ReadSays (now (file .entry)) (now (labels .entry)) (now (entries .entry))
+        a (now (labels .exit)) (now (entries .exit)) ⌝ }
 {
     let bad = refusal(file, labels.len(), entries.len());
     if bad != 0 {

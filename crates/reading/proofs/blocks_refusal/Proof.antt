@@ -19,27 +19,40 @@ length-right-requires c κs = search needs
 
 returns-2 : tie.Need-returns-2
 unfolding blocksRefusal
-returns-2 c = passes 5 _ (passed (c .before .before .before .both-same .ensures) (c .before .before .if1 .left)) (fails 16 _ (failed (c .before .length-right .ensures) (c .if2 .taken)))
+returns-2 c =
+    let places = passed (c .before .before .before .both-same .ensures) (c .before .before .if1 .left) in
+    passes 5 _ places (fails 16 _ (failed (c .before .length-right .ensures) (c .if2 .taken)))
 
 checks-right-requires : tie.Need-checks-right-requires
 checks-right-requires c κs = search needs
 
 returns-3 : tie.Need-returns-3
 unfolding blocksRefusal
-returns-3 c = passes 5 _ (passed (c .before .before .before .before .before .both-same .ensures) (c .before .before .before .before .if1 .left)) (passes 17 _ (passed (c .before .before .before .length-right .ensures) (c .before .before .if2 .left)) (fails 17 _ (failed (c .before .checks-right .ensures) (c .if3 .taken))))
+returns-3 c =
+    let places = passed (c .before .before .before .before .before .both-same .ensures) (c .before .before .before .before .if1 .left) in
+    let whole = passed (c .before .before .before .length-right .ensures) (c .before .before .if2 .left) in
+    passes 5 _ places (passes 17 _ whole (fails 17 _ (failed (c .before .checks-right .ensures) (c .if3 .taken))))
 
 marks-right-requires : tie.Need-marks-right-requires
 marks-right-requires c κs = search needs
 
 returns-4 : tie.Need-returns-4
 unfolding blocksRefusal
-returns-4 c = passes 5 _ (passed (c .before .before .before .before .before .before .before .both-same .ensures) (c .before .before .before .before .before .before .if1 .left))
-    (passes 17 _ (passed (c .before .before .before .before .before .length-right .ensures) (c .before .before .before .before .if2 .left)) (passes 18 _ (passed (c .before .before .before .checks-right .ensures) (c .before .before .if3 .left)) (last-fails 19 (failed (c .before .marks-right .ensures) (c .if4 .taken)))))
+returns-4 c =
+    let a = c .before .before .before .before .before .before in
+    let places = passed (a .before .both-same .ensures) (a .if1 .left) in
+    let whole = passed (c .before .before .before .before .before .length-right .ensures) (c .before .before .before .before .if2 .left) in
+    let checks = passed (c .before .before .before .checks-right .ensures) (c .before .before .if3 .left) in
+    passes 5 _ places (passes 17 _ whole (passes 18 _ checks (last-fails 19 (failed (c .before .marks-right .ensures) (c .if4 .taken)))))
 
 returns-5 : tie.Need-returns-5
 unfolding blocksRefusal
-returns-5 c = passes 5 _ (passed (c .before .before .before .before .before .before .before .both-same .ensures) (c .before .before .before .before .before .before .if1 .left))
-    (passes 17 _ (passed (c .before .before .before .before .before .length-right .ensures) (c .before .before .before .before .if2 .left)) (passes 18 _ (passed (c .before .before .before .checks-right .ensures) (c .before .before .if3 .left)) (last-passes 19 (passed (c .before .marks-right .ensures) (c .if4 .left)))))
+returns-5 c =
+    let a = c .before .before .before .before .before .before in
+    let places = passed (a .before .both-same .ensures) (a .if1 .left) in
+    let whole = passed (c .before .before .before .before .before .length-right .ensures) (c .before .before .before .before .if2 .left) in
+    let checks = passed (c .before .before .before .checks-right .ensures) (c .before .before .if3 .left) in
+    passes 5 _ places (passes 17 _ whole (passes 18 _ checks (last-passes 19 (passed (c .before .marks-right .ensures) (c .if4 .left)))))
 
 pub blocks-refusal-spec : {M : Type 1} → statement M
 blocks-refusal-spec =

@@ -22,7 +22,9 @@ abbrev μ-loop : tie.MeasureT-loop
 μ-loop file p d e all i₀ i = d * e - i
 
 mul-all : tie.Need-mul-all Inv-loop μ-loop
-mul-all c = let h = c .before in omega (arith, mul-le-mul {n₁ = h .args .d} {m₁ = h .args .e} {n₂ = 32} {m₂ = 12} (h .pre .0) (h .pre .2))
+mul-all c =
+    let h = c .before in
+    omega (arith, mul-le-mul {n₁ = h .args .d} {m₁ = h .args .e} {n₂ = 32} {m₂ = 12} (h .pre .0) (h .pre .2))
 
 loop-holds : tie.Need-loop-holds Inv-loop μ-loop
 loop-holds c = try-start _ _
@@ -36,7 +38,9 @@ returns : tie.Need-returns Inv-loop μ-loop
 returns c =
     let h = c .before .before .before .before .before .args in
     let l = c .before .before .before .loop in
-    try-stop (h .d * h .e) (λ k. ltb (entryAt (h .file .now) (h .e) k) (h .p)) (l .i) (omega arith) (ap (λ (x : ℕ). ltb x (h .p)) (sym (c .before .entry .ensures)) ∙ le-ltb _ _ (c .if1 .taken)) ∙ sym (each-list (λ x. ltb x (h .p)) (h .d * h .e) (entryAt (h .file .now) (h .e)))
+    let t = ap (λ (x : ℕ). ltb x (h .p)) (sym (c .before .entry .ensures)) ∙ le-ltb _ _ (c .if1 .taken) in
+    try-stop (h .d * h .e) (λ k. ltb (entryAt (h .file .now) (h .e) k) (h .p)) (l .i) (omega arith) t
+    ∙ sym (each-list (λ x. ltb x (h .p)) (h .d * h .e) (entryAt (h .file .now) (h .e)))
 
 add-i : tie.Need-add-i Inv-loop μ-loop
 add-i c =

@@ -31,10 +31,14 @@ rem-two-bytes : tie.Need-rem-two-bytes
 rem-two-bytes c = search needs
 
 mul-two-bytes-2 : tie.Need-mul-two-bytes-2
-mul-two-bytes-2 c = let h = c .before .before in omega (arith, column-fits (h .args .i) (h .args .e) (h .pre .0) (h .pre .1))
+mul-two-bytes-2 c =
+    let h = c .before .before in
+    omega (arith, column-fits (h .args .i) (h .args .e) (h .pre .0) (h .pre .1))
 
 add-two-bytes-2 : tie.Need-add-two-bytes-2
-add-two-bytes-2 c = let h = c .before .before in omega (arith, column-fits (h .args .i) (h .args .e) (h .pre .0) (h .pre .1))
+add-two-bytes-2 c =
+    let h = c .before .before in
+    omega (arith, column-fits (h .args .i) (h .args .e) (h .pre .0) (h .pre .1))
 
 two-bytes-requires : tie.Need-two-bytes-requires
 two-bytes-requires c κs = let h = c .before .before in

@@ -20,7 +20,9 @@ loop-holds : tie.Need-loop-holds Inv-loop μ-loop
 loop-holds c = fill-start _ _ _ _
 
 label-requires : tie.Need-label-requires Inv-loop μ-loop
-label-requires c κs = let h = c .before .before .before .before in row-inside (c .before .loop .k) _ _ (omega arith) (h .pre .1)
+label-requires c κs =
+    let h = c .before .before .before .before in
+    row-inside (c .before .loop .k) _ _ (omega arith) (h .pre .1)
 
 mul-labels : tie.Need-mul-labels Inv-loop μ-loop
 mul-labels c = omega (arith, c .before .before .loop .inv .size)

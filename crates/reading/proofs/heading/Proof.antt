@@ -44,8 +44,10 @@ cast-t12 : tie.Need-cast-t12
 cast-t12 c = search needs
 
 returns : tie.Need-returns
-returns c = heading-shape (c .before .before .before .before .before .before .before .before .before .args .file .now) _ (c .before .before .before .before .before .before .before .content .ensures) _ _ _ _ (c .before .before .before .before .before .before .two-bytes .ensures .0) (c .before .before .before .before .wide .ensures .0) (c .before .before .wide2 .ensures .0)
-    (c .wide3 .ensures .0)
+returns c =
+    let a = c .before .before .before .before .before .before in
+    heading-shape (a .before .before .before .args .file .now) _ (a .before .content .ensures) _ _ _ _
+    (a .two-bytes .ensures .0) (c .before .before .before .before .wide .ensures .0) (c .before .before .wide2 .ensures .0) (c .wide3 .ensures .0)
 
 pub heading-spec : {M : Type 1} → statement M
 heading-spec =

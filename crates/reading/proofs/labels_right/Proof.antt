@@ -36,7 +36,8 @@ returns c =
     let h = c .before .before .before .before .before .before .args in
     let l = c .before .before .before .before .loop in
     let t = c .before .between .ensures ∙ ap (within 1 _) (c .before .before .label .ensures) in
-    try-stop (h .d) (λ i. within 1 (h .n) (recordAt 1 (h .file .now) i 0)) (l .k) (omega arith) (failed t (c .if1 .taken)) ∙ sym (each-list (within 1 (h .n)) (h .d) (λ i. recordAt 1 (h .file .now) i 0))
+    try-stop (h .d) (λ i. within 1 (h .n) (recordAt 1 (h .file .now) i 0)) (l .k) (omega arith) (failed t (c .if1 .taken))
+    ∙ sym (each-list (within 1 (h .n)) (h .d) (λ i. recordAt 1 (h .file .now) i 0))
 
 add-k : tie.Need-add-k Inv-loop μ-loop
 add-k c = search needs

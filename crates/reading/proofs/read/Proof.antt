@@ -1,4 +1,5 @@
--- `reading::read` meets its contract: a refused call has lent the lists to nothing, and one that is not refused has what the two fillings require.
+-- `reading::read` meets its contract: a refused call has lent the lists to nothing, and one that is not
+-- refused has what the two fillings require.
 -- Assumes nothing.
 use mathlib.Core.Path.{refl, sym}
 use lib.ListN.{length}
@@ -45,8 +46,12 @@ same-length-2 c = search needs
 
 returns-2 : tie.Need-returns-2
 unfolding ReadSays
-returns-2 c = let h = c .before .before .before .before .before .before .before .before .before in
-    (gone (h .before .refusal .ensures) (h .if1 .left), c .before .before .before .before .before .before .before .before .heading .ensures, c .before .before .before .before .before .before .fill-labels .ensures, c .before .before .fill-entries .ensures)
+returns-2 c = let h = c .before .before .before .before .before .before .before .before .before in (
+  gone (h .before .refusal .ensures) (h .if1 .left),
+  c .before .before .before .before .before .before .before .before .heading .ensures,
+  c .before .before .before .before .before .before .fill-labels .ensures,
+  c .before .before .fill-entries .ensures,
+)
 
 pub read-spec : {M : Type 1} → statement M
 read-spec =

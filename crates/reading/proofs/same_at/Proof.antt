@@ -30,7 +30,9 @@ shared-slice-read-if1-2 : tie.Need-shared-slice-read-if1-2 Inv-loop μ-loop
 shared-slice-read-if1-2 c = search needs
 
 returns : tie.Need-returns Inv-loop μ-loop
-returns c = let l = c .before .before .before .before .loop in try-stop _ _ (l .o) (omega arith) (ne-eqb _ _ (c .if1 .taken))
+returns c =
+    let l = c .before .before .before .before .loop in
+    try-stop _ _ (l .o) (omega arith) (ne-eqb _ _ (c .if1 .taken))
 
 add-o : tie.Need-add-o Inv-loop μ-loop
 add-o c = search needs
@@ -39,7 +41,9 @@ loop-less : tie.Need-loop-less Inv-loop μ-loop
 loop-less c = search needs
 
 loop-again : tie.Need-loop-again Inv-loop μ-loop
-loop-again c = let l = c .before .before .before .before .loop in try-turn _ _ (l .o) (l .inv) (omega arith) (eq-eqb _ _ (c .if1 .left))
+loop-again c =
+    let l = c .before .before .before .before .loop in
+    try-turn _ _ (l .o) (l .inv) (omega arith) (eq-eqb _ _ (c .if1 .left))
 
 returns-2 : tie.Need-returns-2 Inv-loop μ-loop
 returns-2 c = let l = c .before .loop in try-end _ _ (l .o) (l .inv) (omega arith)

@@ -15,10 +15,14 @@ cast-result : tie.Need-cast-result
 cast-result c = search needs
 
 mul-result : tie.Need-mul-result
-mul-result c = let l = mul-le-mul {n₁ = c .args .x} {m₁ = c .args .o + 1} {n₂ = 255} {m₂ = 508} (omega arith) (omega arith) in omega arith
+mul-result c =
+    let l = mul-le-mul {n₁ = c .args .x} {m₁ = c .args .o + 1} {n₂ = 255} {m₂ = 508} (omega arith) (omega arith) in
+    omega arith
 
 returns : tie.Need-returns
-returns c = let l = mul-le-mul {n₁ = c .args .x} {m₁ = c .args .o + 1} {n₂ = 255} {m₂ = 508} (omega arith) (omega arith) in (refl, omega arith)
+returns c =
+    let l = mul-le-mul {n₁ = c .args .x} {m₁ = c .args .o + 1} {n₂ = 255} {m₂ = 508} (omega arith) (omega arith) in
+    (refl, omega arith)
 
 pub weighted-spec : {M : Type 1} → statement M
 weighted-spec = tie.close (tie.spec add-result cast-result mul-result returns)

@@ -28,7 +28,9 @@ zero-or-used-requires : tie.Need-zero-or-used-requires Inv-loop μ-loop
 zero-or-used-requires c κs = let h = c .before .before .before .before .pre in (h .0, h .1, omega arith)
 
 returns : tie.Need-returns Inv-loop μ-loop
-returns c = let l = c .before .before .before .before .loop in try-stop _ _ (l .j) (omega arith) (failed (c .before .zero-or-used .ensures) (c .if1 .taken))
+returns c =
+    let l = c .before .before .before .before .loop in
+    try-stop _ _ (l .j) (omega arith) (failed (c .before .zero-or-used .ensures) (c .if1 .taken))
 
 add-j : tie.Need-add-j Inv-loop μ-loop
 add-j c = search needs
@@ -37,7 +39,9 @@ loop-less : tie.Need-loop-less Inv-loop μ-loop
 loop-less c = search needs
 
 loop-again : tie.Need-loop-again Inv-loop μ-loop
-loop-again c = let l = c .before .before .before .before .loop in try-turn _ _ (l .j) (l .inv) (omega arith) (passed (c .before .zero-or-used .ensures) (c .if1 .left))
+loop-again c =
+    let l = c .before .before .before .before .loop in
+    try-turn _ _ (l .j) (l .inv) (omega arith) (passed (c .before .zero-or-used .ensures) (c .if1 .left))
 
 returns-2 : tie.Need-returns-2 Inv-loop μ-loop
 returns-2 c = let l = c .before .loop in try-end _ _ (l .j) (l .inv) (omega arith)

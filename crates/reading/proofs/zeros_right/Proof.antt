@@ -26,10 +26,14 @@ content-requires c κs = omega arith
 
 zeros-in-requires : tie.Need-zeros-in-requires Inv-loop μ-loop
 zeros-in-requires c κs = let h = c .before .before .before .before in
-    (h .pre .0, omega arith, omega (arith, ap length (c .content .ensures), content-length (h .args .file .now) (c .before .before .loop .b) (omega arith)))
+    let l = content-length (h .args .file .now) (c .before .before .loop .b) (omega arith) in
+    (h .pre .0, omega arith, omega (arith, ap length (c .content .ensures), l))
 
 returns : tie.Need-returns Inv-loop μ-loop
-returns c = let l = c .before .before .before .before .loop in try-stop _ _ (l .b) (omega arith) (failed (zeros-content _ (l .b) _ _ _ _ (c .before .before .content .ensures) (c .before .zeros-in .ensures)) (c .if1 .taken))
+returns c =
+    let l = c .before .before .before .before .loop in
+    let t = zeros-content _ (l .b) _ _ _ _ (c .before .before .content .ensures) (c .before .zeros-in .ensures) in
+    try-stop _ _ (l .b) (omega arith) (failed t (c .if1 .taken))
 
 add-b : tie.Need-add-b Inv-loop μ-loop
 add-b c = search needs
@@ -38,7 +42,10 @@ loop-less : tie.Need-loop-less Inv-loop μ-loop
 loop-less c = search needs
 
 loop-again : tie.Need-loop-again Inv-loop μ-loop
-loop-again c = let l = c .before .before .before .before .loop in try-turn _ _ (l .b) (l .inv) (omega arith) (passed (zeros-content _ (l .b) _ _ _ _ (c .before .before .content .ensures) (c .before .zeros-in .ensures)) (c .if1 .left))
+loop-again c =
+    let l = c .before .before .before .before .loop in
+    let t = zeros-content _ (l .b) _ _ _ _ (c .before .before .content .ensures) (c .before .zeros-in .ensures) in
+    try-turn _ _ (l .b) (l .inv) (omega arith) (passed t (c .if1 .left))
 
 returns-2 : tie.Need-returns-2 Inv-loop μ-loop
 returns-2 c = let l = c .before .loop in try-end _ _ (l .b) (l .inv) (omega arith)
