@@ -62,6 +62,12 @@ module _ (O : Vectors (List ℕ)) where
   pub rule-count : (r : Rule) (x : List ℕ) (c : ℕ) → length (ruleRows O r x c) ≡ length (ruleNames r)
   rule-count r x c = sym (labels-length (ruleRows O r x c)) ∙ ap length (rule-labels r x c)
 
+  pub term-count : (t : Term) (x : List ℕ) (k c : ℕ) → length (termRows O t x k c) ≡ length (termNames t)
+  term-count t x k c = sym (labels-length (termRows O t x k c)) ∙ ap length (term-labels t x k c)
+
+  pub atom-count : (a : Atom) (x : List ℕ) (c : ℕ) → length (atomRows O a x c) ≡ length (atomNames a)
+  atom-count a x c = sym (labels-length (atomRows O a x c)) ∙ ap length (atom-labels a x c)
+
 pub labels-are : (p : ℕ) (r : Rule) → labelsOf (rows p r) ≡ ruleNames r
 unfolding rows
 labels-are p r = rule-labels (modulo p (columns r)) r (set (replicate (columns r) 0) 0 1) 1

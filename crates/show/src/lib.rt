@@ -1,4 +1,5 @@
-// How the runs write their lines: a call's name, its answer, and after ` | ` the numbers of each list lent for results.
+// How the runs write their lines: a call's name, its answer, and after ` | ` the numbers of each list lent for
+// results.
 use libc::STDOUT_FILENO;
 
 // What each place of a result list holds before a call, so that a line shows which places the call left as they were.
@@ -21,14 +22,67 @@ pub fn number(x: u32) {
     io::print_decimal(STDOUT_FILENO, x as u64);
 }
 
-// A list that was lent, after the call.
-pub fn list(xs: &[u32]) {
-    text(b" |");
+// A byte put at place `at` of a text; the place after it. A full text stays as it is.
+fn put(out: &mut [u8], at: usize, byte: u8) -> usize {
+    if out.len() <= at {
+        return out.len();
+    }
+    out[at] = byte;
+    at + 1
+}
+
+fn put_all(out: &mut [u8], at: usize, bytes: &[u8]) -> usize {
+    let mut end = at;
     let mut i = 0;
-    while i < xs.len() {
-        number(xs[i]);
+    while i < bytes.len() {
+        end = put(out, end, bytes[i]);
         i += 1;
     }
+    end
+}
+
+fn put_number(out: &mut [u8], at: usize, x: u32) -> usize {
+    let mut digits = [0u8; 20];
+    let n = io::decimal(x as u64, &mut digits);
+    let start = put(out, at, 32);
+    put_all(out, start, &digits[..n])
+}
+
+fn write_first(out: &[u8], n: usize) {
+    if n <= out.len() {
+        text(&out[0..n]);
+    }
+}
+
+// Where the next number goes: there are 11 places for it, or the text is written and its places are free.
+fn free(out: &[u8], at: usize) -> usize {
+    if at < 4000 {
+        return at;
+    }
+    write_first(out, at);
+    0
+}
+
+// A list that was lent, after the call. Its numbers are gathered, so that a write has many of them.
+pub fn list(xs: &[u32]) {
+    text(b" |");
+    if xs.len() == 0 {
+        text(b" ");
+    }
+    numbers(xs);
+}
+
+fn numbers(xs: &[u32]) {
+    let mut space = io::buffer();
+    let out: &mut [u8] = &mut space;
+    let mut at = 0;
+    let mut i = 0;
+    while i < xs.len() {
+        let start = free(out, at);
+        at = put_number(out, start, xs[i]);
+        i += 1;
+    }
+    write_first(out, at);
 }
 
 pub fn refused(k: u32) {
