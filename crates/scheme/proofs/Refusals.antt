@@ -81,13 +81,13 @@ pub record Valid (s : Shape) (labels entries : List ℕ) : Type 0 where
   pub entry : (i : ℕ) → getD entries i 0 < s .p
 
 -- What a refusal of 0 says of the four numbers.
-record Numbers (s : Shape) : Type 0 where
-  modulus : isModulus (s .p) ≡ true
-  n-right : within 1 16 (s .n) ≡ true
-  d-right : within 1 32 (s .d) ≡ true
-  e-right : within 1 12 (s .e) ≡ true
+pub record Numbers (s : Shape) : Type 0 where
+  pub modulus : isModulus (s .p) ≡ true
+  pub n-right : within 1 16 (s .n) ≡ true
+  pub d-right : within 1 32 (s .d) ≡ true
+  pub e-right : within 1 12 (s .e) ≡ true
 
-numbers : (s : Shape) → numbersRefusal s ≡ 0 → Numbers s
+pub numbers : (s : Shape) → numbersRefusal s ≡ 0 → Numbers s
 unfolding numbersRefusal
 numbers s h =
     let a = orElse-zero _ _ h in
@@ -119,14 +119,14 @@ below-at p xs l h i = ⊎-elim
     (lt-or-ge i (length xs))
 
 -- What it says of all.
-record Parts (s : Shape) (labels entries : List ℕ) (fits : Bool) (more : ℕ) : Type 0 where
-  first : numbersRefusal s ≡ 0
-  lengths : (eqb (length labels) (s .d) ≡ true) × (eqb (length entries) (s .d * s .e) ≡ true)
-  own : fits ≡ true
-  lists : contentRefusal (s .p) (s .n) labels entries ≡ 0
-  after : more ≡ 0
+pub record Parts (s : Shape) (labels entries : List ℕ) (fits : Bool) (more : ℕ) : Type 0 where
+  pub first : numbersRefusal s ≡ 0
+  pub lengths : (eqb (length labels) (s .d) ≡ true) × (eqb (length entries) (s .d * s .e) ≡ true)
+  pub own : fits ≡ true
+  pub lists : contentRefusal (s .p) (s .n) labels entries ≡ 0
+  pub after : more ≡ 0
 
-parts : (s : Shape) (labels entries : List ℕ) (fits : Bool) (more : ℕ) → refusalOf s labels entries fits more ≡ 0
+pub parts : (s : Shape) (labels entries : List ℕ) (fits : Bool) (more : ℕ) → refusalOf s labels entries fits more ≡ 0
     → Parts s labels entries fits more
 unfolding refusalOf
 parts s labels entries fits more h =
