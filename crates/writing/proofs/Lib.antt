@@ -1,3 +1,5 @@
+pub mod Checking
 pub mod Filling
+pub mod Parts
 pub mod Ready
 pub mod Settled

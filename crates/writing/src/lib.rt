@@ -9,9 +9,10 @@ ghost use lib.ListN.{length};
 ghost use Rattle.lists.proofs.Fill.{Filled};
 ghost use Rattle.linear.specs.Flat.{place};
 ghost use Rattle.scheme.specs.Refusal.{IsScheme};
-ghost use Rattle.format.specs.Format.{byteOf, blocks, kindOf, recordByte, contentByte, frontByte, checkOf, blockByte, fileOf};
+ghost use Rattle.format.specs.Format.{byteOf, blocks, kindOf, recordByte, contentByte, frontByte, blockByte, fileOf};
 ghost use Rattle.format.specs.Writing.{writeRefusal};
 ghost use Rattle.writing.specs.Says.{WriteSays};
+ghost use Rattle.writing.specs.Steps.{weightOf};
 
 // The heading block and as many row blocks as d needs.
 fn blocks_of(d: usize) -> usize
@@ -161,7 +162,7 @@ fn weighted(x: u8, o: usize) -> u32
 fn write_front(s: Shape, labels: &[u32], entries: &[u32], b: usize, file: &mut [u8]) -> u32
     requires { ⌜ IsScheme s (now labels) (now entries) ⌝ }
     requires { ⌜ (b < 3) × (512 * b + 512 ≤ length (now file)) ⌝ }
-    ensures sum { λ r. ⌜ r ≡ checkOf 1 s (now (labels .entry)) (now (entries .entry)) b ⌝ }
+    ensures sum { λ r. ⌜ r ≡ weightOf 508 (frontByte 1 s (now (labels .entry)) (now (entries .entry)) b) ⌝ }
     ensures left { λ _. ⌜ Filled (512 * b) 508 (frontByte 1 s (now (labels .entry)) (now (entries .entry)) b) (now (file .entry))
         (now (file .exit)) 508 ⌝ }
 {

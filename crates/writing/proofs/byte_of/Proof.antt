@@ -1,3 +1,6 @@
+use Rattle.writing.proofs.Checking.{byte-shift}
+use Prim.Native.Nat.{ℕ, _/_, _%_}
+use mathlib.Core.Path.{ap}
 use native.Mathlib.Omega.{arith}
 use borrow.Author.Needs.{needs}
 use Rattle.writing.proofs.byte_of.Statement.{statement}
@@ -23,7 +26,7 @@ cast-result-2 c = search needs
 
 -- src/lib.rt:42:1
 returns : tie.Need-returns
-returns c = search needs
+returns c = ap (λ (m : ℕ). c .args .x / m % 256) (byte-shift (c .args .k))
 
 pub byte-of-spec : {M : Type 1} → statement M
 byte-of-spec = tie.close (tie.spec mul-result cast-result shr-result cast-result-2 returns)

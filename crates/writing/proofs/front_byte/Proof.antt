@@ -1,3 +1,7 @@
+use Rattle.writing.proofs.Parts.{number-at, content-at}
+use Rattle.format.proofs.Written.{front-mark}
+use borrow.Author.Tests.{lt-ltb}
+use mathlib.Core.Path.{_∙_, sym}
 use native.Mathlib.Omega.{arith}
 use borrow.Author.Needs.{needs}
 use Rattle.writing.proofs.front_byte.Statement.{statement}
@@ -19,7 +23,9 @@ mark-byte-requires c κs = search needs
 
 -- src/lib.rt:138:9
 returns : tie.Need-returns
-returns c = search needs
+returns c =
+    let a = c .before .before .before .before .before .args in
+    c .mark-byte .ensures ∙ sym (front-mark 1 (a .s) (a .labels .now) (a .entries .now) (a .b) (a .o) (c .before .before .if1 .taken))
 
 -- src/lib.rt:141:9
 kind-of-requires : tie.Need-kind-of-requires
@@ -27,11 +33,11 @@ kind-of-requires c κs = search needs
 
 -- src/lib.rt:141:9
 returns-2 : tie.Need-returns-2
-returns-2 c = search needs
+returns-2 c = rw (c .before .if2 .taken) (c .kind-of .ensures)
 
 -- src/lib.rt:144:9
 returns-3 : tie.Need-returns-3
-returns-3 c = search needs
+returns-3 c = rw (c .if3 .taken)
 
 -- src/lib.rt:147:24
 cast-byte-of : tie.Need-cast-byte-of
@@ -47,7 +53,9 @@ byte-of-requires c κs = search needs
 
 -- src/lib.rt:147:9
 returns-4 : tie.Need-returns-4
-returns-4 c = search needs
+returns-4 c =
+    let a = c .before .before .before .before .before .before .before .args in
+    c .byte-of .ensures ∙ number-at (a .s) (a .labels .now) (a .entries .now) (a .b) (a .o) (omega arith) (omega arith)
 
 -- src/lib.rt:149:5
 content-byte-requires : tie.Need-content-byte-requires
@@ -55,7 +63,9 @@ content-byte-requires c κs = search needs
 
 -- src/lib.rt:132:1
 returns-5 : tie.Need-returns-5
-returns-5 c = search needs
+returns-5 c =
+    let a = c .before .before .before .before .before .before .before .args in
+    c .content-byte .ensures ∙ content-at (a .s) (a .labels .now) (a .entries .now) (a .b) (a .o) (omega arith)
 
 pub front-byte-spec : {M : Type 1} → statement M
 front-byte-spec =

@@ -1,3 +1,6 @@
+use Rattle.writing.proofs.Parts.{rows-unused, rows-used}
+use Rattle.scheme.proofs.Refusals.{valid}
+use mathlib.Core.Path.{_∙_}
 use native.Mathlib.Omega.{arith}
 use borrow.Author.Needs.{needs}
 use Rattle.writing.proofs.rows_byte.Statement.{statement}
@@ -8,7 +11,9 @@ use Rattle.writing.proofs.record_byte.Reads as record-byte-reads
 
 -- src/lib.rt:99:9
 returns : tie.Need-returns
-returns c = search needs
+returns c =
+    let a = c .before .before .before .args in
+    rows-unused (a .s) (a .labels .now) (a .entries .now) (a .b) (a .j) (λ x y z. omega (arith, x))
 
 -- src/lib.rt:101:13
 mul-k : tie.Need-mul-k
@@ -20,27 +25,33 @@ add-k c = search needs
 
 -- src/lib.rt:103:9
 returns-2 : tie.Need-returns-2
-returns-2 c = search needs
+returns-2 c =
+    let a = c .before .before .before .before .before .args in
+    rows-unused (a .s) (a .labels .now) (a .entries .now) (a .b) (a .j) (λ x y z. omega (arith, y))
 
 -- src/lib.rt:106:17
 mul-if3 : tie.Need-mul-if3
-mul-if3 c = search needs
+mul-if3 c = record { fits = omega (arith, valid _ _ _ _ (c .before .before .before .before .before .before .pre .0) .e-high) }
 
 -- src/lib.rt:106:13
 add-if3 : tie.Need-add-if3
-add-if3 c = search needs
+add-if3 c = record { fits = omega (arith, valid _ _ _ _ (c .before .before .before .before .before .before .pre .0) .e-high) }
 
 -- src/lib.rt:107:9
 returns-3 : tie.Need-returns-3
-returns-3 c = search needs
+returns-3 c =
+    let a = c .before .before .before .before .before .before .before .args in
+    rows-unused (a .s) (a .labels .now) (a .entries .now) (a .b) (a .j) (λ x y z. omega (arith, z))
 
 -- src/lib.rt:109:5
 record-byte-requires : tie.Need-record-byte-requires
-record-byte-requires c κs = search needs
+record-byte-requires c κs = (c .before .before .before .before .before .before .before .pre .0, (omega arith, omega arith))
 
 -- src/lib.rt:92:1
 returns-4 : tie.Need-returns-4
-returns-4 c = search needs
+returns-4 c =
+    let a = c .before .before .before .before .before .before .before .before .args in
+    c .record-byte .ensures ∙ rows-used (a .s) (a .labels .now) (a .entries .now) (a .b) (a .j) (omega arith) (omega arith) (omega arith)
 
 pub rows-byte-spec : {M : Type 1} → statement M
 rows-byte-spec =

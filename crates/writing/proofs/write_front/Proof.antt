@@ -1,3 +1,14 @@
+-- `writing::write_front` meets its contract. The loop's invariant: the first o bytes are written, and their sum, each times its place
+-- counted from 1, is added up.
+-- Assumes nothing.
+use mathlib.Core.Path.{_≡_, refl}
+use Prim.Native.Nat.{_-_}
+use Rattle.lists.proofs.Fill.{Filled, fill-start, fill-turn, filled-all}
+use Rattle.writing.specs.Steps.{weightOf}
+use Rattle.format.specs.Format.{frontByte}
+use Rattle.format.proofs.Below.{front-below}
+use Rattle.scheme.proofs.Refusals.{valid}
+use Rattle.writing.proofs.Checking.{weight-none, weight-turn, weight-room, weight-all}
 use borrow.Author.Needs.{needs}
 use native.Mathlib.Omega.{arith}
 use Rattle.writing.proofs.write_front.Statement.{statement}
@@ -8,10 +19,11 @@ use Rattle.writing.proofs.front_byte.Reads as front-byte-reads
 use Rattle.writing.proofs.weighted.Reads as weighted-reads
 
 abbrev Inv-loop : tie.InvT-loop
-Inv-loop s labels entries b file₀ at check₀ o₀ file check o = ?
+Inv-loop s labels entries b file₀ at check₀ o₀ file check o =
+    Filled at 508 (frontByte 1 s labels entries b) file₀ file o × (check ≡ weightOf o (frontByte 1 s labels entries b))
 
 abbrev μ-loop : tie.MeasureT-loop
-μ-loop s labels entries b file₀ at check₀ o₀ file check o = ?
+μ-loop s labels entries b file₀ at check₀ o₀ file check o = 508 - o
 
 -- src/lib.rt:168:14
 mul-at : tie.Need-mul-at Inv-loop μ-loop
@@ -19,7 +31,7 @@ mul-at c = search needs
 
 -- src/lib.rt:171:5
 loop-holds : tie.Need-loop-holds Inv-loop μ-loop
-loop-holds c = search needs
+loop-holds c = (fill-start _ _ _ _, weight-none _)
 
 -- src/lib.rt:172:13
 front-byte-requires : tie.Need-front-byte-requires Inv-loop μ-loop
@@ -31,7 +43,7 @@ add-file c = search needs
 
 -- src/lib.rt:173:9
 slice-write-file : tie.Need-slice-write-file Inv-loop μ-loop
-slice-write-file c = search needs
+slice-write-file c = omega (arith, c .before .before .loop .inv .0 .size)
 
 -- src/lib.rt:174:18
 weighted-requires : tie.Need-weighted-requires Inv-loop μ-loop
@@ -39,7 +51,13 @@ weighted-requires c κs = search needs
 
 -- src/lib.rt:174:9
 add-check : tie.Need-add-check Inv-loop μ-loop
-add-check c = search needs
+add-check c =
+    let a = c .before .before .before .before .before .before .before in
+    let i = c .before .before .before .loop in
+    let w = c .weighted .ensures in
+    let h = weight-room _ _ _ _ _ (i .inv .1) (c .before .front-byte .ensures) (w .0) (omega arith)
+    (front-below 1 (a .args .s) (a .args .labels .now) (a .args .entries .now) (omega arith) (valid _ _ _ _ (a .pre .0)) (a .args .b)) in
+    record { fits = omega arith }
 
 -- src/lib.rt:175:9
 add-o : tie.Need-add-o Inv-loop μ-loop
@@ -51,7 +69,11 @@ loop-less c = search needs
 
 -- src/lib.rt:171:5
 loop-again : tie.Need-loop-again Inv-loop μ-loop
-loop-again c = search needs
+loop-again c =
+    let a = c .before .before .before .before .before .before .before in
+    let i = c .before .before .before .loop in
+    (fill-turn _ _ _ _ _ _ _ _ (i .inv .0) (omega arith) (omega arith) refl (c .before .front-byte .ensures),
+    weight-turn _ _ _ _ _ (i .inv .1) (c .before .front-byte .ensures) (c .weighted .ensures .0))
 
 -- src/lib.rt:161:1
 same-length : tie.Need-same-length Inv-loop μ-loop
@@ -59,7 +81,9 @@ same-length c = search needs
 
 -- src/lib.rt:161:1
 returns : tie.Need-returns Inv-loop μ-loop
-returns c = search needs
+returns c =
+    let i = c .before .loop in
+    (weight-all _ _ _ _ (i .inv .1) (i .inv .0 .upto) (c .loop-test .left), filled-all _ _ _ _ _ _ (i .inv .0) (c .loop-test .left))
 
 pub write-front-spec : {M : Type 1} → statement M
 write-front-spec =

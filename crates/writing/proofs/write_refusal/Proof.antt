@@ -1,3 +1,5 @@
+use Rattle.scheme.proofs.Refusals.{refusal-lengths}
+use mathlib.Core.Path.{_∙_}
 use native.Mathlib.Omega.{arith}
 use borrow.Author.Needs.{needs}
 use Rattle.writing.proofs.write_refusal.Statement.{statement}
@@ -17,7 +19,9 @@ refusal-requires c κs = search needs
 
 -- src/lib.rt:34:1
 returns : tie.Need-returns
-returns c = search needs
+returns c =
+    let a = c .before .before .before .before .args in
+    c .refusal .ensures ∙ refusal-lengths (a .s) (a .labels .now) (a .entries .now) _ _ 0 (λ ld le. c .before .file-fits .ensures ld)
 
 pub write-refusal-spec : {M : Type 1} → statement M
 write-refusal-spec = tie.close (tie.spec file-fits-requires refusal-requires returns)
