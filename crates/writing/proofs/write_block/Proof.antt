@@ -1,3 +1,4 @@
+use Rattle.writing.proofs.Blocks.{block-whole}
 use native.Mathlib.Omega.{arith}
 use borrow.Author.Needs.{needs}
 use Rattle.writing.proofs.write_block.Statement.{statement}
@@ -29,7 +30,10 @@ same-length c = search needs
 
 -- src/lib.rt:193:1
 returns : tie.Need-returns
-returns c = ?
+returns c =
+    let a = c .before .before .before .before .before .before .before .before .before .before .before .args in
+    let w = c .before .before .before .before .before .before .write-front .ensures in
+    block-whole (a .s) (a .labels .now) (a .entries .now) (a .b) _ _ _ _ (w .0) (w .1) (c .before .before .write-check .ensures)
 
 pub write-block-spec : {M : Type 1} → statement M
 write-block-spec =

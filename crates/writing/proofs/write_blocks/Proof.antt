@@ -1,6 +1,6 @@
-use Prim.Native.Nat.{_≤_, _-_, _*_, _/_, _%_}
-use Rattle.lists.proofs.Fill.{Filled, fill-start}
-use Rattle.format.specs.Format.{blocks, blockByte}
+use Prim.Native.Nat.{_≤_, _-_}
+use Rattle.lists.proofs.Fill.{fill-start}
+use Rattle.writing.proofs.Blocks.{BlocksWritten, blocks-turn, blocks-all}
 use borrow.Author.Needs.{needs}
 use native.Mathlib.Omega.{arith}
 use Rattle.writing.proofs.write_blocks.Statement.{statement}
@@ -12,7 +12,7 @@ use Rattle.writing.proofs.write_block.Reads as write-block-reads
 
 abbrev Inv-loop : tie.InvT-loop
 Inv-loop s labels entries file₀ count b₀ file b =
-    (b ≤ count) × Filled 0 (512 * blocks 1 (s .d)) (λ i. blockByte 1 s labels entries (i / 512) (i % 512)) file₀ file (512 * b)
+    (b ≤ count) × BlocksWritten s labels entries file₀ file b
 
 abbrev μ-loop : tie.MeasureT-loop
 μ-loop s labels entries file₀ count b₀ file b = count - b
@@ -23,11 +23,14 @@ blocks-of-requires c κs = search needs
 
 -- src/lib.rt:210:5
 loop-holds : tie.Need-loop-holds Inv-loop μ-loop
-loop-holds c = ?
+loop-holds c = (omega arith, fill-start _ _ _ _)
 
 -- src/lib.rt:211:9
 write-block-requires : tie.Need-write-block-requires Inv-loop μ-loop
-write-block-requires c κs = ?
+write-block-requires c κs =
+    let a = c .before .before .before .before .before .before .before in
+    let i = c .before .before .loop .inv in
+    (a .pre .0, (omega arith, omega (arith, i .1 .size, a .pre .1 .1, c .before .before .before .blocks-of .ensures .0)))
 
 -- src/lib.rt:212:9
 add-b : tie.Need-add-b Inv-loop μ-loop
@@ -39,7 +42,10 @@ loop-less c = search needs
 
 -- src/lib.rt:210:5
 loop-again : tie.Need-loop-again Inv-loop μ-loop
-loop-again c = ?
+loop-again c =
+    let a = c .before .before .before .before .before .before .before .before .before .before .args in
+    let i = c .before .before .before .before .before .loop .inv in
+    (omega arith, blocks-turn (a .s) (a .labels .now) (a .entries .now) _ _ _ _ (i .1) (omega (arith, c .before .before .before .before .before .before .blocks-of .ensures .0)) (c .before .before .write-block .ensures))
 
 -- src/lib.rt:203:1
 same-length : tie.Need-same-length Inv-loop μ-loop
@@ -47,7 +53,9 @@ same-length c = search needs
 
 -- src/lib.rt:203:1
 returns : tie.Need-returns Inv-loop μ-loop
-returns c = ?
+returns c =
+    let a = c .before .before .before .before .before .before in
+    blocks-all (a .args .s) (a .args .labels .now) (a .args .entries .now) _ _ _ (c .before .loop .inv .1) (a .pre .1 .1) (omega (arith, c .before .before .blocks-of .ensures .0))
 
 pub write-blocks-spec : {M : Type 1} → statement M
 write-blocks-spec =
