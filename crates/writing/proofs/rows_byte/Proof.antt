@@ -1,53 +1,43 @@
-use Rattle.writing.proofs.Parts.{rows-unused, rows-used}
-use Rattle.scheme.proofs.Refusals.{valid}
+-- `writing::rows_byte` meets its contract: at each return of 0 one of the three tests of a used place fails.
+-- Assumes nothing.
 use mathlib.Core.Path.{_∙_}
 use native.Mathlib.Omega.{arith}
 use borrow.Author.Needs.{needs}
+use Rattle.scheme.proofs.Refusals.{valid}
+use Rattle.writing.proofs.Parts.{rows-unused, rows-used}
 use Rattle.writing.proofs.rows_byte.Statement.{statement}
 use Rattle.writing.proofs.rows_byte.Tie as tie
-use Rattle.writing.proofs.rows_byte.Reads as reads
-use Rattle.writing.proofs.rows_byte.Lts as lts
-use Rattle.writing.proofs.record_byte.Reads as record-byte-reads
 
--- src/lib.rt:99:9
 returns : tie.Need-returns
 returns c =
     let a = c .before .before .before .args in
     rows-unused (a .s) (a .labels .now) (a .entries .now) (a .b) (a .j) (λ x y z. omega (arith, x))
 
--- src/lib.rt:101:13
 mul-k : tie.Need-mul-k
 mul-k c = search needs
 
--- src/lib.rt:101:13
 add-k : tie.Need-add-k
 add-k c = search needs
 
--- src/lib.rt:103:9
 returns-2 : tie.Need-returns-2
 returns-2 c =
     let a = c .before .before .before .before .before .args in
     rows-unused (a .s) (a .labels .now) (a .entries .now) (a .b) (a .j) (λ x y z. omega (arith, y))
 
--- src/lib.rt:106:17
 mul-if3 : tie.Need-mul-if3
 mul-if3 c = record { fits = omega (arith, valid _ _ _ _ (c .before .before .before .before .before .before .pre .0) .e-high) }
 
--- src/lib.rt:106:13
 add-if3 : tie.Need-add-if3
 add-if3 c = record { fits = omega (arith, valid _ _ _ _ (c .before .before .before .before .before .before .pre .0) .e-high) }
 
--- src/lib.rt:107:9
 returns-3 : tie.Need-returns-3
 returns-3 c =
     let a = c .before .before .before .before .before .before .before .args in
     rows-unused (a .s) (a .labels .now) (a .entries .now) (a .b) (a .j) (λ x y z. omega (arith, z))
 
--- src/lib.rt:109:5
 record-byte-requires : tie.Need-record-byte-requires
 record-byte-requires c κs = (c .before .before .before .before .before .before .before .pre .0, (omega arith, omega arith))
 
--- src/lib.rt:92:1
 returns-4 : tie.Need-returns-4
 returns-4 c =
     let a = c .before .before .before .before .before .before .before .before .args in

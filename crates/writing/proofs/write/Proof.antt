@@ -1,37 +1,30 @@
-use Rattle.writing.proofs.Ready.{write-scheme, write-length}
+-- `writing::write` meets its contract: a refused call has lent the file to nothing, and one that is not refused has what `write_blocks`
+-- requires.
+-- Assumes nothing.
+use borrow.Author.Needs.{needs}
 use Rattle.scheme.proofs.Refusals.{gone, valid}
 use Rattle.scheme.proofs.Outcomes.{refused-outcome, refused-left}
-use native.Mathlib.Omega.{arith}
-use borrow.Author.Needs.{needs}
+use Rattle.writing.proofs.Ready.{write-scheme, write-length}
 use Rattle.writing.proofs.write.Statement.{statement}
 use Rattle.writing.proofs.write.Tie as tie
-use Rattle.writing.proofs.write.Reads as reads
-use Rattle.writing.proofs.write.Lts as lts
-use Rattle.writing.proofs.write_blocks.Reads as write-blocks-reads
-use Rattle.writing.proofs.write_refusal.Reads as write-refusal-reads
 
--- src/lib.rt:221:9
 write-refusal-requires : tie.Need-write-refusal-requires
 write-refusal-requires c κs = search needs
 
--- src/lib.rt:223:9
 returns : tie.Need-returns
 returns c =
     let r = c .before .write-refusal .ensures in
     record { answer = refused-outcome r (c .if1 .taken); left = refused-left _ _ r (c .if1 .taken) }
 
--- src/lib.rt:225:5
 write-blocks-requires : tie.Need-write-blocks-requires
 write-blocks-requires c κs =
     let z = gone (c .before .before .write-refusal .ensures) (c .before .if1 .left) in
     let h = write-scheme _ _ _ _ z in
     (h, (valid _ _ _ _ h .d-high, write-length _ _ _ _ z))
 
--- src/lib.rt:218:1
 same-length : tie.Need-same-length
 same-length c = search needs
 
--- src/lib.rt:218:1
 returns-2 : tie.Need-returns-2
 returns-2 c =
     let z = gone (c .before .before .before .before .before .write-refusal .ensures) (c .before .before .before .before .if1 .left) in

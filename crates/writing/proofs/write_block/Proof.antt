@@ -1,34 +1,25 @@
-use Rattle.writing.proofs.Blocks.{block-whole}
-use native.Mathlib.Omega.{arith}
+-- `writing::write_block` meets its contract: bytes 0 to 507 and the check are the block.
+-- Assumes nothing.
 use borrow.Author.Needs.{needs}
+use Rattle.writing.proofs.Blocks.{block-whole}
 use Rattle.writing.proofs.write_block.Statement.{statement}
 use Rattle.writing.proofs.write_block.Tie as tie
-use Rattle.writing.proofs.write_block.Reads as reads
-use Rattle.writing.proofs.write_block.Lts as lts
-use Rattle.writing.proofs.write_check.Reads as write-check-reads
-use Rattle.writing.proofs.write_front.Reads as write-front-reads
 
--- src/lib.rt:199:9
 write-front-requires : tie.Need-write-front-requires
 write-front-requires c κs = search needs
 
--- src/lib.rt:200:24
 mul-write-check : tie.Need-mul-write-check
 mul-write-check c = search needs
 
--- src/lib.rt:200:24
 add-write-check : tie.Need-add-write-check
 add-write-check c = search needs
 
--- src/lib.rt:200:5
 write-check-requires : tie.Need-write-check-requires
 write-check-requires c κs = search needs
 
--- src/lib.rt:193:1
 same-length : tie.Need-same-length
 same-length c = search needs
 
--- src/lib.rt:193:1
 returns : tie.Need-returns
 returns c =
     let a = c .before .before .before .before .before .before .before .before .before .before .before .args in

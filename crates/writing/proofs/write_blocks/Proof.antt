@@ -1,14 +1,12 @@
+-- `writing::write_blocks` meets its contract. The loop's invariant: the first b blocks are written.
+-- Assumes nothing.
 use Prim.Native.Nat.{_≤_, _-_}
+use native.Mathlib.Omega.{arith}
+use borrow.Author.Needs.{needs}
 use Rattle.lists.proofs.Fill.{fill-start}
 use Rattle.writing.proofs.Blocks.{BlocksWritten, blocks-turn, blocks-all}
-use borrow.Author.Needs.{needs}
-use native.Mathlib.Omega.{arith}
 use Rattle.writing.proofs.write_blocks.Statement.{statement}
 use Rattle.writing.proofs.write_blocks.Tie as tie
-use Rattle.writing.proofs.write_blocks.Reads as reads
-use Rattle.writing.proofs.write_blocks.Lts as lts
-use Rattle.writing.proofs.blocks_of.Reads as blocks-of-reads
-use Rattle.writing.proofs.write_block.Reads as write-block-reads
 
 abbrev Inv-loop : tie.InvT-loop
 Inv-loop s labels entries file₀ count b₀ file b =
@@ -17,41 +15,33 @@ Inv-loop s labels entries file₀ count b₀ file b =
 abbrev μ-loop : tie.MeasureT-loop
 μ-loop s labels entries file₀ count b₀ file b = count - b
 
--- src/lib.rt:208:9
 blocks-of-requires : tie.Need-blocks-of-requires Inv-loop μ-loop
 blocks-of-requires c κs = search needs
 
--- src/lib.rt:210:5
 loop-holds : tie.Need-loop-holds Inv-loop μ-loop
 loop-holds c = (omega arith, fill-start _ _ _ _)
 
--- src/lib.rt:211:9
 write-block-requires : tie.Need-write-block-requires Inv-loop μ-loop
 write-block-requires c κs =
     let a = c .before .before .before .before .before .before .before in
     let i = c .before .before .loop .inv in
     (a .pre .0, (omega arith, omega (arith, i .1 .size, a .pre .1 .1, c .before .before .before .blocks-of .ensures .0)))
 
--- src/lib.rt:212:9
 add-b : tie.Need-add-b Inv-loop μ-loop
 add-b c = search needs
 
--- src/lib.rt:210:5
 loop-less : tie.Need-loop-less Inv-loop μ-loop
 loop-less c = search needs
 
--- src/lib.rt:210:5
 loop-again : tie.Need-loop-again Inv-loop μ-loop
 loop-again c =
     let a = c .before .before .before .before .before .before .before .before .before .before .args in
     let i = c .before .before .before .before .before .loop .inv in
     (omega arith, blocks-turn (a .s) (a .labels .now) (a .entries .now) _ _ _ _ (i .1) (omega (arith, c .before .before .before .before .before .before .blocks-of .ensures .0)) (c .before .before .write-block .ensures))
 
--- src/lib.rt:203:1
 same-length : tie.Need-same-length Inv-loop μ-loop
 same-length c = search needs
 
--- src/lib.rt:203:1
 returns : tie.Need-returns Inv-loop μ-loop
 returns c =
     let a = c .before .before .before .before .before .before in

@@ -2,15 +2,12 @@
 -- Assumes nothing.
 use mathlib.Core.Path.{refl}
 use Prim.Native.Nat.{_-_}
+use native.Mathlib.Omega.{arith}
+use borrow.Author.Needs.{needs}
 use Rattle.lists.proofs.Fill.{Filled, fill-start, fill-turn, filled-all}
 use Rattle.format.specs.Format.{byteOf}
-use borrow.Author.Needs.{needs}
-use native.Mathlib.Omega.{arith}
 use Rattle.writing.proofs.write_check.Statement.{statement}
 use Rattle.writing.proofs.write_check.Tie as tie
-use Rattle.writing.proofs.write_check.Reads as reads
-use Rattle.writing.proofs.write_check.Lts as lts
-use Rattle.writing.proofs.byte_of.Reads as byte-of-reads
 
 abbrev Inv-loop : tie.InvT-loop
 Inv-loop check at file₀ k₀ file k = Filled at 4 (byteOf check) file₀ file k
@@ -18,39 +15,30 @@ Inv-loop check at file₀ k₀ file k = Filled at 4 (byteOf check) file₀ file 
 abbrev μ-loop : tie.MeasureT-loop
 μ-loop check at file₀ k₀ file k = 4 - k
 
--- src/lib.rt:186:5
 loop-holds : tie.Need-loop-holds Inv-loop μ-loop
 loop-holds c = fill-start _ _ _ _
 
--- src/lib.rt:187:24
 byte-of-requires : tie.Need-byte-of-requires Inv-loop μ-loop
 byte-of-requires c κs = search needs
 
--- src/lib.rt:187:14
 add-file : tie.Need-add-file Inv-loop μ-loop
 add-file c = search needs
 
--- src/lib.rt:187:9
 slice-write-file : tie.Need-slice-write-file Inv-loop μ-loop
 slice-write-file c = omega (arith, c .before .before .loop .inv .size)
 
--- src/lib.rt:188:9
 add-k : tie.Need-add-k Inv-loop μ-loop
 add-k c = search needs
 
--- src/lib.rt:186:5
 loop-less : tie.Need-loop-less Inv-loop μ-loop
 loop-less c = search needs
 
--- src/lib.rt:186:5
 loop-again : tie.Need-loop-again Inv-loop μ-loop
 loop-again c = fill-turn _ _ _ _ _ _ _ _ (c .before .before .loop .inv) (omega arith) (omega arith) refl (c .byte-of .ensures)
 
--- src/lib.rt:181:1
 same-length : tie.Need-same-length Inv-loop μ-loop
 same-length c = search needs
 
--- src/lib.rt:181:1
 returns : tie.Need-returns Inv-loop μ-loop
 returns c = filled-all _ _ _ _ _ _ (c .before .loop .inv) (omega arith)
 

@@ -3,20 +3,16 @@
 -- Assumes nothing.
 use mathlib.Core.Path.{_≡_, refl}
 use Prim.Native.Nat.{_-_}
+use native.Mathlib.Omega.{arith}
+use borrow.Author.Needs.{needs}
 use Rattle.lists.proofs.Fill.{Filled, fill-start, fill-turn, filled-all}
-use Rattle.writing.specs.Steps.{weightOf}
+use Rattle.scheme.proofs.Refusals.{valid}
 use Rattle.format.specs.Format.{frontByte}
 use Rattle.format.proofs.Below.{front-below}
-use Rattle.scheme.proofs.Refusals.{valid}
+use Rattle.writing.specs.Steps.{weightOf}
 use Rattle.writing.proofs.Checking.{weight-none, weight-turn, weight-room, weight-all}
-use borrow.Author.Needs.{needs}
-use native.Mathlib.Omega.{arith}
 use Rattle.writing.proofs.write_front.Statement.{statement}
 use Rattle.writing.proofs.write_front.Tie as tie
-use Rattle.writing.proofs.write_front.Reads as reads
-use Rattle.writing.proofs.write_front.Lts as lts
-use Rattle.writing.proofs.front_byte.Reads as front-byte-reads
-use Rattle.writing.proofs.weighted.Reads as weighted-reads
 
 abbrev Inv-loop : tie.InvT-loop
 Inv-loop s labels entries b file₀ at check₀ o₀ file check o =
@@ -25,31 +21,24 @@ Inv-loop s labels entries b file₀ at check₀ o₀ file check o =
 abbrev μ-loop : tie.MeasureT-loop
 μ-loop s labels entries b file₀ at check₀ o₀ file check o = 508 - o
 
--- src/lib.rt:168:14
 mul-at : tie.Need-mul-at Inv-loop μ-loop
 mul-at c = search needs
 
--- src/lib.rt:171:5
 loop-holds : tie.Need-loop-holds Inv-loop μ-loop
 loop-holds c = (fill-start _ _ _ _, weight-none _)
 
--- src/lib.rt:172:13
 front-byte-requires : tie.Need-front-byte-requires Inv-loop μ-loop
 front-byte-requires c κs = search needs
 
--- src/lib.rt:173:14
 add-file : tie.Need-add-file Inv-loop μ-loop
 add-file c = search needs
 
--- src/lib.rt:173:9
 slice-write-file : tie.Need-slice-write-file Inv-loop μ-loop
 slice-write-file c = omega (arith, c .before .before .loop .inv .0 .size)
 
--- src/lib.rt:174:18
 weighted-requires : tie.Need-weighted-requires Inv-loop μ-loop
 weighted-requires c κs = search needs
 
--- src/lib.rt:174:9
 add-check : tie.Need-add-check Inv-loop μ-loop
 add-check c =
     let a = c .before .before .before .before .before .before .before in
@@ -59,27 +48,23 @@ add-check c =
     (front-below 1 (a .args .s) (a .args .labels .now) (a .args .entries .now) (omega arith) (valid _ _ _ _ (a .pre .0)) (a .args .b)) in
     record { fits = omega arith }
 
--- src/lib.rt:175:9
 add-o : tie.Need-add-o Inv-loop μ-loop
 add-o c = search needs
 
--- src/lib.rt:171:5
 loop-less : tie.Need-loop-less Inv-loop μ-loop
 loop-less c = search needs
 
--- src/lib.rt:171:5
 loop-again : tie.Need-loop-again Inv-loop μ-loop
 loop-again c =
     let a = c .before .before .before .before .before .before .before in
-    let i = c .before .before .before .loop in
-    (fill-turn _ _ _ _ _ _ _ _ (i .inv .0) (omega arith) (omega arith) refl (c .before .front-byte .ensures),
-    weight-turn _ _ _ _ _ (i .inv .1) (c .before .front-byte .ensures) (c .weighted .ensures .0))
+    let i = c .before .before .before .loop in (
+      fill-turn _ _ _ _ _ _ _ _ (i .inv .0) (omega arith) (omega arith) refl (c .before .front-byte .ensures),
+      weight-turn _ _ _ _ _ (i .inv .1) (c .before .front-byte .ensures) (c .weighted .ensures .0),
+    )
 
--- src/lib.rt:161:1
 same-length : tie.Need-same-length Inv-loop μ-loop
 same-length c = search needs
 
--- src/lib.rt:161:1
 returns : tie.Need-returns Inv-loop μ-loop
 returns c =
     let i = c .before .loop in
