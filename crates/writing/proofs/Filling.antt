@@ -10,8 +10,8 @@ use Rattle.algebra.proofs.Cases.{lt-or-ge}
 use Rattle.lists.proofs.Fill.{Filled}
 
 -- The first i places hold f; then the next m are filled, with f too.
-pub fill-more : (at n : ℕ) (f : ℕ → ℕ) (a₀ a a′ : List ℕ) (i j m : ℕ) (g : ℕ → ℕ) → Filled at n f a₀ a i → Filled j m g a a′ m
-    → j ≡ at + i → i + m ≤ n → ((k : ℕ) → k < m → g k ≡ f (i + k)) → Filled at n f a₀ a′ (i + m)
+pub fill-more : (at n : ℕ) (f : ℕ → ℕ) (a₀ a a′ : List ℕ) (i j m : ℕ) (g : ℕ → ℕ)
+    → Filled at n f a₀ a i → Filled j m g a a′ m → j ≡ at + i → i + m ≤ n → ((k : ℕ) → k < m → g k ≡ f (i + k)) → Filled at n f a₀ a′ (i + m)
 fill-more at n f a₀ a a′ i j m g h next q l same = record {
   upto = l;
   size = next .size ∙ h .size;
@@ -29,8 +29,8 @@ fill-more at n f a₀ a a′ i j m g h next q l same = record {
         ap (λ (x : ℕ). getD a′ x 0) p ∙ next .done t lt ∙ same t lt ∙ ap f (sym e)
 
 -- The same places, of which more are to be filled.
-pub fill-wider : (at n m : ℕ) (f g : ℕ → ℕ) (a₀ a : List ℕ) (i : ℕ) → Filled at n f a₀ a i → n ≤ m → ((k : ℕ) → k < n → f k ≡ g k)
-    → Filled at m g a₀ a i
+pub fill-wider : (at n m : ℕ) (f g : ℕ → ℕ) (a₀ a : List ℕ) (i : ℕ) → Filled at n f a₀ a i → n ≤ m
+    → ((k : ℕ) → k < n → f k ≡ g k) → Filled at m g a₀ a i
 fill-wider at n m f g a₀ a i h l same = record {
   upto = omega (arith, h .upto);
   size = h .size;

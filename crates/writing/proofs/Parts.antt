@@ -11,7 +11,8 @@ use borrow.Author.Tests.{ltb-true, lt-ltb}
 use Rattle.lists.proofs.Store.{row-fits}
 use Rattle.linear.specs.Flat.{place, entry}
 use Rattle.scheme.specs.declared.Shape.{Shape}
-use Rattle.scheme.proofs.Refusals.{Valid, and-true}
+use Rattle.scheme.specs.Refusal.{IsScheme}
+use Rattle.scheme.proofs.Refusals.{valid, and-true}
 use Rattle.format.specs.Format.{byteOf, kindOf, used, recordByte, contentByte, frontByte}
 use Rattle.format.proofs.Written.{content-unused, record-used, front-number, front-content}
 
@@ -30,8 +31,9 @@ module _ (s : Shape) (labels entries : List ℕ) where
       let e : suc m - 1 ≡ m = omega arith in ap (λ (i : ℕ). byteOf (entry (s .e) entries k (i / 2)) (i % 2)) e
 
   -- The entry of byte m of the record of row k is one of the list.
-  pub entry-inside : Valid s labels entries → (k m : ℕ) → k < s .d → m < 1 + s .e * 2 → k * s .e + (m - 1) / 2 < length entries
-  entry-inside h k m l u = omega (arith, row-fits k (s .d) (s .e) l, h .entries-length, h .e-low)
+  pub entry-inside : IsScheme s labels entries → (k m : ℕ) → k < s .d → m < 1 + s .e * 2 → k * s .e + (m - 1) / 2 < length entries
+  entry-inside h k m l u =
+      let v = valid s labels entries true h in omega (arith, row-fits k (s .d) (s .e) l, v .entries-length, v .e-low)
 
   -- The content of a row block: 0, but for a place in one of the 20 records, of one of the d rows, in its label or first e entries.
   pub rows-unused : (b j : ℕ) → (j / 25 < 20 → b * 20 + j / 25 < s .d → j % 25 < 1 + s .e * 2 → ⊥)
@@ -42,7 +44,8 @@ module _ (s : Shape) (labels entries : List ℕ) where
       go true q =
           let x = and-true (ltb (j / 25) 20) (ltb (b * 20 + j / 25) (s .d) && ltb (j % 25) (1 + s .e * 2)) q in
           let y = and-true (ltb (b * 20 + j / 25) (s .d)) (ltb (j % 25) (1 + s .e * 2)) (x .1) in
-          absurd (h (ltb-true (j / 25) 20 (x .0)) (ltb-true (b * 20 + j / 25) (s .d) (y .0)) (ltb-true (j % 25) (1 + s .e * 2) (y .1)))
+          absurd (h (ltb-true (j / 25) 20 (x .0)) (ltb-true (b * 20 + j / 25) (s .d) (y .0))
+          (ltb-true (j % 25) (1 + s .e * 2) (y .1)))
       go false q = sym (content-unused 1 s labels entries (suc b) j q)
 
   pub rows-used : (b j : ℕ) → j / 25 < 20 → b * 20 + j / 25 < s .d → j % 25 < 1 + s .e * 2

@@ -7,7 +7,6 @@ ghost use Prim.Native.Nat.{suc, _<_, _≤_, _+_, _*_};
 ghost use lib.Dec.{eqb};
 ghost use lib.ListN.{length};
 ghost use Rattle.lists.proofs.Fill.{Filled};
-ghost use Rattle.linear.specs.Flat.{place};
 ghost use Rattle.scheme.specs.Refusal.{IsScheme};
 ghost use Rattle.format.specs.Format.{byteOf, blocks, kindOf, recordByte, contentByte, frontByte, blockByte, fileOf};
 ghost use Rattle.format.specs.Writing.{writeRefusal};
@@ -121,14 +120,6 @@ fn content_byte(s: Shape, labels: &[u32], entries: &[u32], b: usize, j: usize) -
     rows_byte(s, labels, entries, b - 1, j)
 }
 
-// Byte o of the word that a block begins with.
-fn mark_byte(word: &[u8], o: usize) -> u8
-    requires { ⌜ o < length (now word) ⌝ }
-    ensures { λ r. ⌜ r ≡ place (now (word .entry)) o ⌝ }
-{
-    word[o]
-}
-
 // Bytes 0 to 507 of block b: mark, kind, version, number, content.
 fn front_byte(s: Shape, labels: &[u32], entries: &[u32], b: usize, o: usize) -> u8
     requires { ⌜ IsScheme s (now labels) (now entries) ⌝ }
@@ -136,7 +127,8 @@ fn front_byte(s: Shape, labels: &[u32], entries: &[u32], b: usize, o: usize) -> 
     ensures { λ r. ⌜ r ≡ frontByte 1 s (now (labels .entry)) (now (entries .entry)) b o ⌝ }
 {
     if o < 4 {
-        return mark_byte(b"QRUL", o);
+        let mark = b"QRUL";
+        return mark[o];
     }
     if o == 4 {
         return kind_of(b);
@@ -202,7 +194,7 @@ fn write_block(s: Shape, labels: &[u32], entries: &[u32], b: usize, file: &mut [
 
 fn write_blocks(s: Shape, labels: &[u32], entries: &[u32], file: &mut [u8])
     requires { ⌜ IsScheme s (now labels) (now entries) ⌝ }
-    requires { ⌜ (s .d ≤ 32) × (length (now file) ≡ 512 * blocks 1 (s .d)) ⌝ }
+    requires { ⌜ length (now file) ≡ 512 * blocks 1 (s .d) ⌝ }
     ensures { λ _. ⌜ now (file .exit) ≡ fileOf 1 s (now (labels .entry)) (now (entries .entry)) ⌝ }
 {
     let count = blocks_of(s.d);

@@ -8,16 +8,13 @@ use Rattle.writing.proofs.Parts.{number-at, content-at}
 use Rattle.writing.proofs.front_byte.Statement.{statement}
 use Rattle.writing.proofs.front_byte.Tie as tie
 
-slice-aggregate-mark-byte : tie.Need-slice-aggregate-mark-byte
-slice-aggregate-mark-byte c = search needs
-
-mark-byte-requires : tie.Need-mark-byte-requires
-mark-byte-requires c κs = search needs
+element-copy-out-result : tie.Need-element-copy-out-result
+element-copy-out-result c = search needs
 
 returns : tie.Need-returns
 returns c =
     let a = c .before .before .before .before .before .args in
-    c .mark-byte .ensures ∙ sym (front-mark 1 (a .s) (a .labels .now) (a .entries .now) (a .b) (a .o) (c .before .before .if1 .taken))
+    sym (front-mark 1 (a .s) (a .labels .now) (a .entries .now) (a .b) (a .o) (c .before .before .if1 .taken))
 
 kind-of-requires : tie.Need-kind-of-requires
 kind-of-requires c κs = search needs
@@ -54,8 +51,7 @@ pub front-byte-spec : {M : Type 1} → statement M
 front-byte-spec =
     tie.close
     (tie.spec
-    slice-aggregate-mark-byte
-    mark-byte-requires
+    element-copy-out-result
     returns
     kind-of-requires
     returns-2

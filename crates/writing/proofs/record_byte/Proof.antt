@@ -10,8 +10,7 @@ use Rattle.writing.proofs.record_byte.Tie as tie
 
 mul-result : tie.Need-mul-result
 mul-result c =
-    let a = c .before .before .before in
-    let v = valid _ _ _ _ (a .pre .0) in
+    let v = valid _ _ _ _ (c .before .before .before .pre .0) in
     record { fits = omega (arith, v .d-high) }
 
 shared-slice-read-result : tie.Need-shared-slice-read-result
@@ -36,22 +35,22 @@ sub-i c = search needs
 mul-byte-of : tie.Need-mul-byte-of
 mul-byte-of c =
     let a = c .before .before .before .before in
-    record { fits = omega (arith, entry-inside _ _ _ (valid _ _ _ _ (a .pre .0)) _ _ (a .pre .1 .0) (a .pre .1 .1)) }
+    record { fits = omega (arith, entry-inside _ _ _ (a .pre .0) _ _ (a .pre .1 .0) (a .pre .1 .1)) }
 
 add-byte-of : tie.Need-add-byte-of
 add-byte-of c =
     let a = c .before .before .before .before in
-    record { fits = omega (arith, entry-inside _ _ _ (valid _ _ _ _ (a .pre .0)) _ _ (a .pre .1 .0) (a .pre .1 .1)) }
+    record { fits = omega (arith, entry-inside _ _ _ (a .pre .0) _ _ (a .pre .1 .0) (a .pre .1 .1)) }
 
 mul-byte-of-2 : tie.Need-mul-byte-of-2
 mul-byte-of-2 c =
     let a = c .before .before .before .before in
-    record { fits = omega (arith, entry-inside _ _ _ (valid _ _ _ _ (a .pre .0)) _ _ (a .pre .1 .0) (a .pre .1 .1)) }
+    record { fits = omega (arith, entry-inside _ _ _ (a .pre .0) _ _ (a .pre .1 .0) (a .pre .1 .1)) }
 
 shared-slice-read-byte-of : tie.Need-shared-slice-read-byte-of
 shared-slice-read-byte-of c =
     let a = c .before .before .before .before .before in
-    entry-inside _ _ _ (valid _ _ _ _ (a .pre .0)) _ _ (a .pre .1 .0) (a .pre .1 .1)
+    entry-inside _ _ _ (a .pre .0) _ _ (a .pre .1 .0) (a .pre .1 .1)
 
 byte-of-requires : tie.Need-byte-of-requires
 byte-of-requires c κs = search needs

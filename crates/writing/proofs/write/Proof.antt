@@ -2,7 +2,7 @@
 -- requires.
 -- Assumes nothing.
 use borrow.Author.Needs.{needs}
-use Rattle.scheme.proofs.Refusals.{gone, valid}
+use Rattle.scheme.proofs.Refusals.{gone}
 use Rattle.scheme.proofs.Outcomes.{refused-outcome, refused-left}
 use Rattle.writing.proofs.Ready.{write-scheme, write-length}
 use Rattle.writing.proofs.write.Statement.{statement}
@@ -19,8 +19,7 @@ returns c =
 write-blocks-requires : tie.Need-write-blocks-requires
 write-blocks-requires c κs =
     let z = gone (c .before .before .write-refusal .ensures) (c .before .if1 .left) in
-    let h = write-scheme _ _ _ _ z in
-    (h, (valid _ _ _ _ h .d-high, write-length _ _ _ _ z))
+    (write-scheme _ _ _ _ z, write-length _ _ _ _ z)
 
 same-length : tie.Need-same-length
 same-length c = search needs

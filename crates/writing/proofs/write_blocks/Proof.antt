@@ -4,19 +4,19 @@ use Prim.Native.Nat.{_≤_, _-_}
 use native.Mathlib.Omega.{arith}
 use borrow.Author.Needs.{needs}
 use Rattle.lists.proofs.Fill.{fill-start}
+use Rattle.scheme.proofs.Refusals.{valid}
 use Rattle.writing.proofs.Blocks.{BlocksWritten, blocks-turn, blocks-all}
 use Rattle.writing.proofs.write_blocks.Statement.{statement}
 use Rattle.writing.proofs.write_blocks.Tie as tie
 
 abbrev Inv-loop : tie.InvT-loop
-Inv-loop s labels entries file₀ count b₀ file b =
-    (b ≤ count) × BlocksWritten s labels entries file₀ file b
+Inv-loop s labels entries file₀ count b₀ file b = (b ≤ count) × BlocksWritten s labels entries file₀ file b
 
 abbrev μ-loop : tie.MeasureT-loop
 μ-loop s labels entries file₀ count b₀ file b = count - b
 
 blocks-of-requires : tie.Need-blocks-of-requires Inv-loop μ-loop
-blocks-of-requires c κs = search needs
+blocks-of-requires c κs = valid _ _ _ _ (c .before .before .before .pre .0) .d-high
 
 loop-holds : tie.Need-loop-holds Inv-loop μ-loop
 loop-holds c = (omega arith, fill-start _ _ _ _)
@@ -25,7 +25,7 @@ write-block-requires : tie.Need-write-block-requires Inv-loop μ-loop
 write-block-requires c κs =
     let a = c .before .before .before .before .before .before .before in
     let i = c .before .before .loop .inv in
-    (a .pre .0, (omega arith, omega (arith, i .1 .size, a .pre .1 .1, c .before .before .before .blocks-of .ensures .0)))
+    (a .pre .0, (omega arith, omega (arith, i .1 .size, a .pre .1, c .before .before .before .blocks-of .ensures .0)))
 
 add-b : tie.Need-add-b Inv-loop μ-loop
 add-b c = search needs
@@ -37,7 +37,10 @@ loop-again : tie.Need-loop-again Inv-loop μ-loop
 loop-again c =
     let a = c .before .before .before .before .before .before .before .before .before .before .args in
     let i = c .before .before .before .before .before .loop .inv in
-    (omega arith, blocks-turn (a .s) (a .labels .now) (a .entries .now) _ _ _ _ (i .1) (omega (arith, c .before .before .before .before .before .before .blocks-of .ensures .0)) (c .before .before .write-block .ensures))
+    let n = c .before .before .before .before .before .before .blocks-of .ensures .0 in (
+      omega arith,
+      blocks-turn (a .s) (a .labels .now) (a .entries .now) _ _ _ _ (i .1) (omega arith) (c .before .before .write-block .ensures),
+    )
 
 same-length : tie.Need-same-length Inv-loop μ-loop
 same-length c = search needs
@@ -45,7 +48,8 @@ same-length c = search needs
 returns : tie.Need-returns Inv-loop μ-loop
 returns c =
     let a = c .before .before .before .before .before .before in
-    blocks-all (a .args .s) (a .args .labels .now) (a .args .entries .now) _ _ _ (c .before .loop .inv .1) (a .pre .1 .1) (omega (arith, c .before .before .blocks-of .ensures .0))
+    let n = c .before .before .blocks-of .ensures .0 in
+    blocks-all (a .args .s) (a .args .labels .now) (a .args .entries .now) _ _ _ (c .before .loop .inv .1) (a .pre .1) (omega arith)
 
 pub write-blocks-spec : {M : Type 1} → statement M
 write-blocks-spec =

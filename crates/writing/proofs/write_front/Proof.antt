@@ -56,7 +56,6 @@ loop-less c = search needs
 
 loop-again : tie.Need-loop-again Inv-loop μ-loop
 loop-again c =
-    let a = c .before .before .before .before .before .before .before in
     let i = c .before .before .before .loop in (
       fill-turn _ _ _ _ _ _ _ _ (i .inv .0) (omega arith) (omega arith) refl (c .before .front-byte .ensures),
       weight-turn _ _ _ _ _ (i .inv .1) (c .before .front-byte .ensures) (c .weighted .ensures .0),
