@@ -145,7 +145,7 @@ fn front_byte(s: Shape, labels: &[u32], entries: &[u32], b: usize, o: usize) -> 
 // What the byte at place o of a block adds to the block's check.
 fn weighted(x: u8, o: usize) -> u32
     requires { ⌜ o < 508 ⌝ }
-    ensures { λ r. ⌜ (r ≡ x * (o + 1)) × (r ≤ 129540) ⌝ }
+    ensures { λ r. ⌜ r ≡ x * (o + 1) ⌝ }
 {
     (x as u32) * ((o + 1) as u32)
 }
@@ -205,8 +205,8 @@ fn write_blocks(s: Shape, labels: &[u32], entries: &[u32], file: &mut [u8])
     }
 }
 
-// Writes the file of a scheme. Wrong answers that the contract rules out: done with a check that is kept in two bytes, as the sums of most
-// files would be; done with a file of two blocks, and the bytes after them as they were, in a list of three.
+// Writes the file of a scheme. Wrong answers that the contract rules out: done with a check that is cut to its low two bytes; done with a
+// file of three blocks in which both row blocks are numbered 1.
 pub fn write(s: Shape, labels: &[u32], entries: &[u32], file: &mut [u8]) -> Outcome
     ensures { λ a. ⌜ WriteSays s (now (labels .entry)) (now (entries .entry)) (now (file .entry)) a (now (file .exit)) ⌝ }
 {

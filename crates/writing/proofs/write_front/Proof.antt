@@ -43,8 +43,7 @@ add-check : tie.Need-add-check Inv-loop μ-loop
 add-check c =
     let a = c .before .before .before .before .before .before .before in
     let i = c .before .before .before .loop in
-    let w = c .weighted .ensures in
-    let h = weight-room _ _ _ _ _ (i .inv .1) (c .before .front-byte .ensures) (w .0) (omega arith)
+    let h = weight-room _ _ _ _ _ (i .inv .1) (c .before .front-byte .ensures) (c .weighted .ensures) (omega arith)
     (front-below 1 (a .args .s) (a .args .labels .now) (a .args .entries .now) (omega arith) (valid _ _ _ _ (a .pre .0)) (a .args .b)) in
     record { fits = omega arith }
 
@@ -58,7 +57,7 @@ loop-again : tie.Need-loop-again Inv-loop μ-loop
 loop-again c =
     let i = c .before .before .before .loop in (
       fill-turn _ _ _ _ _ _ _ _ (i .inv .0) (omega arith) (omega arith) refl (c .before .front-byte .ensures),
-      weight-turn _ _ _ _ _ (i .inv .1) (c .before .front-byte .ensures) (c .weighted .ensures .0),
+      weight-turn _ _ _ _ _ (i .inv .1) (c .before .front-byte .ensures) (c .weighted .ensures),
     )
 
 same-length : tie.Need-same-length Inv-loop μ-loop
