@@ -1,7 +1,7 @@
 // Request lines answered: standard input has a request a line, a call's name and its numbers. For each this writes a line: the name, the
 // answer, and after ` | ` the numbers of each list lent for results, 61681 where the call left a place as it was. A line that is no request
-// (an unknown name, numbers missing or left over, a number that is no decimal below 2^32, a result list of more than 2,048 places, more
-// than 16,384 numbers or 131,072 bytes) is answered by `?`.
+// (an unknown name, numbers missing or left over, a number that is no decimal below 2^32, a byte above 255, a result list or a text of more
+// than 2,048 places, more than 16,384 numbers or 131,072 bytes) is answered by `?`.
 //
 // The numbers of a call; a list is its length and then its numbers, a scheme is p, n, d, e, the labels and the entries:
 //   check      scheme
@@ -10,10 +10,12 @@
 //   join       scheme, set, shares
 //   product    scheme, length of r, length of w
 //   threshold  scheme, t
+//   rule       p, n, text (a list of bytes), length of the list for the labels, length of the list for the entries
 //
-// The file stdin has document 01's examples, refused calls of every kind, and then requests of these six calls from
+// The crate answers has the first six, answers_made the last. The file stdin has document 01's examples, refused calls of every kind, and
+// then requests of these calls from
 //   python3 FOLDER/requests.py 7 3000 base | python3 FOLDER/trials.py --from-json
-// where FOLDER has the second program. The file stdout is what that program answers:
+// where FOLDER has the second program; the lines of rule stand after those of the six. The file stdout is what that program answers:
 //   python3 FOLDER/trials.py < crates/trials/stdin
 use requests::Read;
 
