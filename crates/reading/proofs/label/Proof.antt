@@ -29,7 +29,8 @@ wide-requires c κs = search needs
 
 returns : tie.Need-returns
 returns c = let h = c .before .before .before .before in
-    c .wide .ensures .0 ∙ ap (λ l. place l (h .args .k % 20 * 25)) (c .before .before .content .ensures) ∙ label-at (h .args .file .now) (h .args .k)
+    c .wide .ensures .0 ∙ ap (λ l. place l (h .args .k % 20 * 25)) (c .before .before .content .ensures)
+    ∙ label-at (h .args .file .now) (h .args .k)
 
 pub label-spec : {M : Type 1} → statement M
 label-spec =
