@@ -1,14 +1,19 @@
 // Request lines: a call's name and decimal numbers below 2^32, with one space between. The numbers of a line as one list, and the parts of
-// that list: a number, or a list, which is its length and then its numbers. Every function takes any line and any list.
+// that list: a number, or a list, which is its length and then its numbers; a scheme at the head of them, the places lent for results, a
+// list of bytes. Every public function takes any line and any list.
+use scheme::Shape;
 ghost use mathlib.Core.Path.{_≡_};
 ghost use mathlib.Core.Bool.{Bool, true, false, _&&_};
 ghost use mathlib.Core.List.{List, [], _∷_};
-ghost use Prim.Native.Nat.{ℕ, _+_, _*_};
+ghost use Prim.Native.Nat.{ℕ, _+_, _*_, _≤_, _<_};
 ghost use lib.Dec.{eqb};
-ghost use lib.ListN.{take, drop, getD};
+ghost use lib.ListN.{length, take, drop, getD};
 ghost use Rattle.bytes.specs.Bytes.{indexOf};
 ghost use Rattle.requests.specs.Text.{ReadSays, Stored, ReadsOn, Reads};
+ghost use Rattle.scheme.specs.Tests.{eachBelow};
+ghost use Rattle.scheme.specs.Outcome.{over};
 ghost use Rattle.requests.specs.Parts.{pastNumber, pastList, listAt};
+ghost use Rattle.requests.specs.Bytes.{BytesSay};
 
 const SPACE: u8 = 32;
 
@@ -252,4 +257,108 @@ pub fn list_at(xs: &[u32], at: usize) -> &[u32]
     }
     let start = at + 1;
     first(&xs[start..end], size_at(xs, at))
+}
+
+// A scheme at the head of the numbers: p, n, d, e, the labels and the entries.
+pub fn shape(xs: &[u32]) -> Shape
+    ensures { λ r. ⌜ (r .p ≡ getD (now (xs .entry)) 0 0) × (r .n ≡ getD (now (xs .entry)) 1 0)
+        × (r .d ≡ getD (now (xs .entry)) 2 0) × (r .e ≡ getD (now (xs .entry)) 3 0) ⌝ }
+{
+    Shape {
+        p: number_at(xs, 0),
+        n: number_at(xs, 1),
+        d: size_at(xs, 2),
+        e: size_at(xs, 3),
+    }
+}
+
+pub fn labels(xs: &[u32]) -> &[u32]
+    ensures { λ r. ⌜ now r ≡ listAt (now (xs .entry)) 4 ⌝ }
+{
+    list_at(xs, 4)
+}
+
+pub fn entries(xs: &[u32]) -> &[u32]
+    ensures { λ r. ⌜ now r ≡ listAt (now (xs .entry)) (pastList (now (xs .entry)) 4) ⌝ }
+{
+    list_at(xs, past_list(xs, 4))
+}
+
+// The place after the scheme.
+pub fn past_scheme(xs: &[u32]) -> usize
+    ensures { λ r. ⌜ r ≡ pastList (now (xs .entry)) (pastList (now (xs .entry)) 4) ⌝ }
+{
+    past_list(xs, past_list(xs, 4))
+}
+
+// The places of a result list: no request lends more.
+const MOST: usize = 2048;
+
+pub fn results() -> [u32; 2048]
+    ensures { λ r. ⌜ 2048 ≡ length r ⌝ }
+{
+    [0; 2048]
+}
+
+// How many places a request lends, by the number at a place.
+pub fn places(xs: &[u32], at: usize) -> usize
+    ensures { λ r. ⌜ r ≤ 2048 ⌝ }
+    ensures { λ r. ⌜ (getD (now (xs .entry)) at 0 ≤ 2048 → r ≡ getD (now (xs .entry)) at 0) ⌝ }
+{
+    let n = size_at(xs, at);
+    if n > MOST {
+        return MOST;
+    }
+    n
+}
+
+// The place after the length of a result list; past all numbers where no request lends so many places.
+pub fn past_places(xs: &[u32], at: usize) -> usize
+    ensures { λ r. ⌜ (getD (now (xs .entry)) at 0 ≤ 2048 → r ≡ pastNumber (now (xs .entry)) at) ⌝ }
+    ensures { λ r. ⌜ (2048 < getD (now (xs .entry)) at 0 → r ≡ length (now (xs .entry)) + 1) ⌝ }
+{
+    if size_at(xs, at) > MOST {
+        return xs.len() + 1;
+    }
+    past_number(xs, at)
+}
+
+// Places for a list of bytes.
+pub fn byte_places() -> [u8; 2048]
+    ensures { λ r. ⌜ 2048 ≡ length r ⌝ }
+{
+    [0; 2048]
+}
+
+fn byte(x: u32) -> u8
+    requires { ⌜ x < 256 ⌝ }
+    ensures { λ r. ⌜ r ≡ x ⌝ }
+{
+    x as u8
+}
+
+// Bytes copied to the first places of a list.
+fn copy_bytes(xs: &[u32], out: &mut [u8])
+    requires { ⌜ (length (now xs) ≤ length (now out)) × (eachBelow 256 (now xs) ≡ true) ⌝ }
+    ensures { λ _. ⌜ now (out .exit) ≡ over (now (xs .entry)) (now (out .entry)) ⌝ }
+{
+    let mut i = 0;
+    while i < xs.len() {
+        out[i] = byte(xs[i]);
+        i += 1;
+    }
+}
+
+// Are the numbers bytes, and is there a place for each? Then they stand in the first places; else no place changes.
+pub fn to_bytes(xs: &[u32], out: &mut [u8]) -> bool
+    ensures { λ r. ⌜ BytesSay (now (xs .entry)) (now (out .entry)) r (now (out .exit)) ⌝ }
+{
+    if out.len() < xs.len() {
+        return false;
+    }
+    if !scheme::all_below(256, xs) {
+        return false;
+    }
+    copy_bytes(xs, out);
+    true
 }

@@ -1,6 +1,7 @@
 // How the runs write their lines: a call's name, its answer, and after ` | ` the numbers of each list lent for
 // results.
 use libc::STDOUT_FILENO;
+use scheme::Outcome;
 
 // What each place of a result list holds before a call, so that a line shows which places the call left as they were.
 const MARK: u32 = 61681;
@@ -18,6 +19,11 @@ pub fn text(bytes: &[u8]) {
 }
 
 pub fn number(x: u32) {
+    size(x as usize);
+}
+
+// A length as a number.
+pub fn size(x: usize) {
     text(b" ");
     io::print_decimal(STDOUT_FILENO, x as u64);
 }
@@ -88,4 +94,11 @@ fn numbers(xs: &[u32]) {
 pub fn refused(k: u32) {
     text(b" REFUSED");
     number(k);
+}
+
+pub fn outcome(a: Outcome) {
+    match a {
+        Outcome::Done => text(b" OK"),
+        Outcome::Refused(k) => refused(k),
+    }
 }
