@@ -51,8 +51,9 @@ returns-5 c =
     let a = c .before .before .before .before .before .before in
     let places = passed (a .before .both-same .ensures) (a .if1 .left) in
     let whole = passed (c .before .before .before .before .before .length-right .ensures) (c .before .before .before .before .if2 .left) in
-    let checks = passed (c .before .before .before .checks-right .ensures) (c .before .before .if3 .left) in
-    passes 5 _ places (passes 17 _ whole (passes 18 _ checks (last-passes 19 (passed (c .before .marks-right .ensures) (c .if4 .left)))))
+    let marks = passed (c .before .marks-right .ensures) (c .if4 .left) in
+    passes 5 _ places (passes 17 _ whole
+    (passes 18 _ (passed (c .before .before .before .checks-right .ensures) (c .before .before .if3 .left)) (last-passes 19 marks)))
 
 pub blocks-refusal-spec : {M : Type 1} → statement M
 blocks-refusal-spec =

@@ -1,7 +1,6 @@
 -- `reading::check_right` meets its contract.
 -- Assumes nothing.
 use borrow.Author.Needs.{needs}
-use Rattle.reading.specs.Parts.{checkSum}
 use Rattle.reading.proofs.Sums.{check-right}
 use Rattle.reading.proofs.check_right.Statement.{statement}
 use Rattle.reading.proofs.check_right.Tie as tie

@@ -6,7 +6,6 @@ use native.Mathlib.Omega.{arith}
 use borrow.Author.Needs.{needs}
 use Rattle.linear.specs.Combination.{total}
 use Rattle.format.specs.Reading.{byteAt}
-use Rattle.reading.specs.Parts.{checkSum}
 use Rattle.reading.proofs.Sums.{sum-go, sum-end}
 use Rattle.reading.proofs.check_sum.Statement.{statement}
 use Rattle.reading.proofs.check_sum.Tie as tie

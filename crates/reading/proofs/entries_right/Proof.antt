@@ -30,7 +30,8 @@ loop-holds : tie.Need-loop-holds Inv-loop μ-loop
 loop-holds c = try-start _ _
 
 entry-requires : tie.Need-entry-requires Inv-loop μ-loop
-entry-requires c κs = let h = c .before .before .before in
+entry-requires c κs =
+    let h = c .before .before .before in
     let i = c .before .loop .i in
     (h .pre .1, h .pre .2, row-inside (i / h .args .e) _ _ (row-below i (h .args .d) (h .args .e) (omega arith)) (h .pre .3))
 

@@ -41,12 +41,14 @@ add-two-bytes-2 c =
     omega (arith, column-fits (h .args .i) (h .args .e) (h .pre .0) (h .pre .1))
 
 two-bytes-requires : tie.Need-two-bytes-requires
-two-bytes-requires c κs = let h = c .before .before in
+two-bytes-requires c κs =
+    let h = c .before .before in
     let l = content-length (h .args .file .now) (1 + h .args .i / h .args .e / 20) (h .pre .2) in
     omega (arith, ap length (c .content .ensures), l, column-fits (h .args .i) (h .args .e) (h .pre .0) (h .pre .1))
 
 returns : tie.Need-returns
-returns c = let h = c .before .before .before in
+returns c =
+    let h = c .before .before .before in
     let at = h .args .i / h .args .e % 20 * 25 + 1 + h .args .i % h .args .e * 2 in
     c .two-bytes .ensures .0 ∙ ap (λ l. numberOf 2 (λ t. place l (at + t))) (c .before .content .ensures) ∙ entry-at _ _ _ (h .pre .0) (h .pre .1)
 

@@ -4,7 +4,6 @@ use Prim.Native.Nat.{_*_, _-_, _/_}
 use native.Mathlib.Omega.{arith}
 use borrow.Author.Needs.{needs}
 use Rattle.reading.specs.Parts.{entryAt}
-use Rattle.format.specs.Reading.{entriesAt}
 use Rattle.lists.proofs.Fill.{Filled, fill-start, fill-turn}
 use Rattle.reading.proofs.Overs.{filled-over}
 use Rattle.format.proofs.Records.{row-below}
@@ -25,7 +24,8 @@ loop-holds : tie.Need-loop-holds Inv-loop μ-loop
 loop-holds c = fill-start _ _ _ _
 
 entry-requires : tie.Need-entry-requires Inv-loop μ-loop
-entry-requires c κs = let h = c .before .before .before .before in
+entry-requires c κs =
+    let h = c .before .before .before .before in
     let i = c .before .loop .i in
     (h .pre .0, h .pre .1, row-inside (i / h .args .e) _ _ (row-below i (h .args .d) (h .args .e) (omega arith)) (h .pre .3))
 
@@ -42,7 +42,8 @@ loop-less : tie.Need-loop-less Inv-loop μ-loop
 loop-less c = search needs
 
 loop-again : tie.Need-loop-again Inv-loop μ-loop
-loop-again c = let i = c .before .before .loop .inv in
+loop-again c =
+    let i = c .before .before .loop .inv in
     let h = c .before .before .before .before .before in
     fill-turn _ _ _ _ _ _ _ _ i (omega arith) (omega (arith, h .pre .2)) (omega arith) (c .entry .ensures)
 

@@ -3,7 +3,7 @@
 use Prim.Native.Nat.{_-_}
 use native.Mathlib.Omega.{arith}
 use borrow.Author.Needs.{needs}
-use Rattle.format.specs.Reading.{recordAt, labelsAt}
+use Rattle.format.specs.Reading.{recordAt}
 use Rattle.lists.proofs.Fill.{Filled, fill-start, fill-turn}
 use Rattle.reading.proofs.Overs.{filled-over}
 use Rattle.reading.proofs.Rows.{row-inside}
@@ -37,7 +37,8 @@ loop-less : tie.Need-loop-less Inv-loop μ-loop
 loop-less c = search needs
 
 loop-again : tie.Need-loop-again Inv-loop μ-loop
-loop-again c = let i = c .before .before .loop .inv in
+loop-again c =
+    let i = c .before .before .loop .inv in
     let h = c .before .before .before .before .before in
     fill-turn _ _ _ _ _ _ _ _ i (omega arith) (omega (arith, h .pre .0)) (omega arith) (c .label .ensures)
 

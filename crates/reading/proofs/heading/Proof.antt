@@ -13,25 +13,29 @@ content-requires : tie.Need-content-requires
 content-requires c κs = search needs
 
 two-bytes-requires : tie.Need-two-bytes-requires
-two-bytes-requires c κs = let h = c .before .before in
+two-bytes-requires c κs =
+    let h = c .before .before in
     omega (arith, ap length (c .content .ensures), content-length (h .args .file .now) 0 (h .pre))
 
 shared-slice-read-wide : tie.Need-shared-slice-read-wide
-shared-slice-read-wide c = let h = c .before .before .before .before in
+shared-slice-read-wide c =
+    let h = c .before .before .before .before in
     omega (arith, ap length (c .before .before .content .ensures), content-length (h .args .file .now) 0 (h .pre))
 
 wide-requires : tie.Need-wide-requires
 wide-requires c κs = search needs
 
 shared-slice-read-wide-2 : tie.Need-shared-slice-read-wide-2
-shared-slice-read-wide-2 c = let h = c .before .before .before .before .before .before in
+shared-slice-read-wide-2 c =
+    let h = c .before .before .before .before .before .before in
     omega (arith, ap length (c .before .before .before .before .content .ensures), content-length (h .args .file .now) 0 (h .pre))
 
 wide-requires-2 : tie.Need-wide-requires-2
 wide-requires-2 c κs = search needs
 
 shared-slice-read-wide-3 : tie.Need-shared-slice-read-wide-3
-shared-slice-read-wide-3 c = let h = c .before .before .before .before .before .before .before .before in
+shared-slice-read-wide-3 c =
+    let h = c .before .before .before .before .before .before .before .before in
     omega (arith, ap length (c .before .before .before .before .before .before .content .ensures), content-length (h .args .file .now) 0 (h .pre))
 
 wide-requires-3 : tie.Need-wide-requires-3

@@ -21,15 +21,18 @@ mul-wide : tie.Need-mul-wide
 mul-wide c = search needs
 
 shared-slice-read-wide : tie.Need-shared-slice-read-wide
-shared-slice-read-wide c = let h = c .before .before .before in
+shared-slice-read-wide c =
+    let h = c .before .before .before in
     omega (arith, ap length (c .before .content .ensures), content-length (h .args .file .now) (1 + h .args .k / 20) (h .pre))
 
 wide-requires : tie.Need-wide-requires
 wide-requires c κs = search needs
 
 returns : tie.Need-returns
-returns c = let h = c .before .before .before .before in
-    c .wide .ensures .0 ∙ ap (λ l. place l (h .args .k % 20 * 25)) (c .before .before .content .ensures) ∙ label-at (h .args .file .now) (h .args .k)
+returns c =
+    let h = c .before .before .before .before in
+    c .wide .ensures .0 ∙ ap (λ l. place l (h .args .k % 20 * 25)) (c .before .before .content .ensures)
+    ∙ label-at (h .args .file .now) (h .args .k)
 
 pub label-spec : {M : Type 1} → statement M
 label-spec =

@@ -46,7 +46,8 @@ loop-less : tie.Need-loop-less Inv-loop μ-loop
 loop-less c = search needs
 
 loop-again : tie.Need-loop-again Inv-loop μ-loop
-loop-again c = let l = c .before .before .before .before .loop in
+loop-again c =
+    let l = c .before .before .before .before .loop in
     let t = c .before .between .ensures ∙ ap (within 1 _) (c .before .before .label .ensures) in
     try-turn _ _ (l .k) (l .inv) (omega arith) (passed t (c .if1 .left))
 

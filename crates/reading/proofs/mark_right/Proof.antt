@@ -33,7 +33,8 @@ returns-2 : tie.Need-returns-2
 returns-2 c =
     let a = c .before .before .before .before .before .before .before .args in
     let h = c .before .before .before .before in
-    kind-wrong (a .file .now) (a .b) _ (passed (h .same-at .ensures) (c .before .before .before .if1 .left)) (c .before .kind .ensures) (c .if2 .taken)
+    kind-wrong (a .file .now) (a .b) _ (passed (h .same-at .ensures) (c .before .before .before .if1 .left))
+    (c .before .kind .ensures) (c .if2 .taken)
 
 add-if3 : tie.Need-add-if3
 add-if3 c = search needs
@@ -45,8 +46,8 @@ returns-3 : tie.Need-returns-3
 returns-3 c =
     let a = c .before .before .before .before .before .before .before .before .before .args in
     let h = c .before .before .before .before .before in
-    version-wrong (a .file .now) (a .b) _ (passed (h .before .same-at .ensures) (h .if1 .left)) (c .before .before .before .kind .ensures) (c .before .before .if2 .left)
-    (c .if3 .taken)
+    version-wrong (a .file .now) (a .b) _ (passed (h .before .same-at .ensures) (h .if1 .left)) (c .before .before .before .kind .ensures)
+    (c .before .before .if2 .left) (c .if3 .taken)
 
 add-two-bytes : tie.Need-add-two-bytes
 add-two-bytes c = search needs

@@ -25,7 +25,8 @@ content-requires : tie.Need-content-requires Inv-loop μ-loop
 content-requires c κs = omega arith
 
 zeros-in-requires : tie.Need-zeros-in-requires Inv-loop μ-loop
-zeros-in-requires c κs = let h = c .before .before .before .before in
+zeros-in-requires c κs =
+    let h = c .before .before .before .before in
     let l = content-length (h .args .file .now) (c .before .before .loop .b) (omega arith) in
     (h .pre .0, omega arith, omega (arith, ap length (c .content .ensures), l))
 
