@@ -1,5 +1,6 @@
--- Document 01, "Scheme files": each byte of the file of a scheme, by its place. All is said for files of version v, in which an entry, and p
--- in the heading, has 2 v bytes: version 1 is document 01's; version 2 (document 02) has entries of 4 bytes.
+-- Document 01, "Scheme files": each byte of the file of a scheme that refusals 1 to 7 pass (then each is below 256), by its place. All is
+-- said for files of version v, in which an entry, and p in the heading, has 2 v bytes: version 1 is document 01's; version 2 (document 02)
+-- has entries of 4 bytes. v is 1 or 2.
 -- Assumes nothing.
 use mathlib.Core.Bool.{Bool, cond, _&&_}
 use mathlib.Core.List.{List, [], _∷_}
@@ -9,7 +10,7 @@ use Rattle.linear.specs.Combination.{total}
 use Rattle.linear.specs.Flat.{place, entry, listOf}
 use Rattle.scheme.specs.declared.Shape.{Shape}
 
--- "numbers little-endian": byte k of a number, and the number whose w bytes are b 0, b 1, ..
+-- "numbers little-endian": byte k of a number, the lowest is byte 0; and the number whose w bytes are b 0, b 1, ..
 abbrev pub byteOf : ℕ → ℕ → ℕ
 byteOf x k = (x / 256 ^ k) % 256
 
@@ -27,7 +28,7 @@ size v = 1 + 12 * width v
 abbrev pub records : ℕ → ℕ
 records v = 500 / size v
 
--- "There are as many row blocks as d needs." With the heading block so many blocks.
+-- "There are as many row blocks as d needs.": the heading block, and d divided by the records a block, rounded up.
 abbrev pub blocks : ℕ → ℕ → ℕ
 blocks v d = 1 + (d + (records v - 1)) / records v
 
@@ -40,22 +41,23 @@ abbrev pub kindOf : ℕ → ℕ
 kindOf zero = 1
 kindOf (suc b) = 2
 
--- The row whose record place j of row block b + 1 lies in, and the place in the record.
+-- Rows and row blocks are counted from 0, so that row block b is block b + 1. Its content place j lies in the record of this row, at this
+-- place of the record.
 abbrev pub rowOf : ℕ → ℕ → ℕ → ℕ
 rowOf v b j = b * records v + j / size v
 
 abbrev pub inRecord : ℕ → ℕ → ℕ
 inRecord v j = j % size v
 
--- "Columns past e, records past d and all other content bytes are 0": whether content place j of a block has a use. In the heading: p, n, d
--- and e. In a row block: the label, and the bytes of the first e entries, of a record of one of the d rows.
+-- "Columns past e, records past d and all other content bytes are 0": `used v d e b j` says whether content place j of block b has a use. In
+-- the heading: p, n, d and e. In a row block: the label, and the bytes of the first e entries, of a record of one of the d rows.
 abbrev pub used : ℕ → ℕ → ℕ → ℕ → ℕ → Bool
 used v d e zero j = ltb j (width v + 3)
 used v d e (suc b) j =
     ltb (j / size v) (records v) && (ltb (rowOf v b j) d && ltb (inRecord v j) (1 + e * width v))
 
 module _ (v : ℕ) (s : Shape) (labels entries : List ℕ) where
-  -- "The heading block (number 0) holds p in 2 bytes, then n, d and e in one each."
+  -- "The heading block (number 0) holds p in 2 bytes, then n, d and e in one each." Asked only at places that `used` admits.
   abbrev pub headingByte : ℕ → ℕ
   headingByte j =
       cond (ltb j (width v)) (byteOf (s .p) j)
@@ -63,7 +65,7 @@ module _ (v : ℕ) (s : Shape) (labels entries : List ℕ) where
       (cond (eqb j (width v + 1)) (s .d)
       (s .e)))
 
-  -- The record of row k: the label, then each entry's bytes.
+  -- The record of row k: the label, then each entry's bytes. Asked only at places that `used` admits.
   abbrev pub recordByte : ℕ → ℕ → ℕ
   recordByte k zero = place labels k
   recordByte k (suc m) = byteOf (entry (s .e) entries k (m / width v)) (m % width v)
@@ -86,7 +88,7 @@ module _ (v : ℕ) (s : Shape) (labels entries : List ℕ) where
   abbrev pub checkOf : ℕ → ℕ
   checkOf b = total 508 (λ o. frontByte b o * (o + 1))
 
-  -- Byte o of block b; 508 to 511 are the check.
+  -- Byte o of block b; 508 to 511 are the check, which four bytes hold (`check-below` of proofs/Below.antt).
   abbrev pub blockByte : ℕ → ℕ → ℕ
   blockByte b o = cond (ltb o 508) (frontByte b o) (byteOf (checkOf b) (o - 508))
 

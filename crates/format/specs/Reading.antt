@@ -64,8 +64,8 @@ module _ (v : ℕ) (file : List ℕ) where
   abbrev pub restRight : Shape → Bool
   restRight s = eqb blockCount (blocks v (s .d)) && allBelow blockCount (zerosRight (s .d) (s .e))
 
-  -- "reading a file tries 5, 17, 18, 19, 1, 2, 3, 4, 20, 6, 7", each for all blocks before the next. 5: "32 label places and 384 entry places";
-  -- 17: the length is none of those named.
+  -- "reading a file tries 5, 17, 18, 19, 1, 2, 3, 4, 20, 6, 7": each number on every block before the next number is tried. 5: "32 label
+  -- places and 384 entry places"; 17: the length is none of those named.
   abbrev pub readRefusal : Bool → ℕ → ℕ → ℕ
   readRefusal lengthRight labelPlaces entryPlaces =
       orElse (unless (eqb labelPlaces 32 && eqb entryPlaces 384) 5)

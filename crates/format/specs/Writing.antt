@@ -7,6 +7,7 @@ use Rattle.scheme.specs.declared.Shape.{Shape}
 use Rattle.scheme.specs.Refusal.{refusalOf}
 use Rattle.format.specs.Format.{blocks}
 
--- Refusals 1 to 7. "A file is written to 512 bytes a block, exactly as many as needed."
+-- Refusals 1 to 7, where the list lent for the file has so many places. "A file is written to 512 bytes a block, exactly as many as
+-- needed."
 abbrev pub writeRefusal : ℕ → Shape → List ℕ → List ℕ → ℕ → ℕ
 writeRefusal v s labels entries places = refusalOf s labels entries (eqb places (512 * blocks v (s .d))) 0

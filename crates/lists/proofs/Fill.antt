@@ -1,9 +1,9 @@
 -- A loop that fills n places of a list with given numbers, from place `at` on: what is done, and what still stands.
 -- Assumes nothing.
-use mathlib.Core.Path.{_≡_, refl, sym, ap, _∙_}
+use mathlib.Core.Path.{_≡_, refl, sym, ap, subst, _∙_}
 use mathlib.Core.List.{List}
 use Prim.Native.Nat.{ℕ, _+_, _<_, _≤_}
-use native.Mathlib.Nat.{zero-add}
+use native.Mathlib.Nat.{zero-add, le-antisymm}
 use native.Mathlib.Numerals.{add-one}
 use native.Mathlib.Omega.{arith}
 use lib.ListN.{length, getD, set, length-set}
@@ -34,6 +34,10 @@ module _ (at n : ℕ) (f : ℕ → ℕ) (a₀ : List ℕ) where
     before = λ k lk. getD-set-other a j k x 0 (λ r. omega arith) ∙ h .before k lk;
     after = λ k lk. getD-set-other a j k x 0 (λ r. omega arith) ∙ h .after k (omega arith);
   }
+
+-- A loop that has come to the end has filled all.
+pub filled-all : (at n : ℕ) (f : ℕ → ℕ) (x₀ x : List ℕ) (i : ℕ) → Filled at n f x₀ x i → n ≤ i → Filled at n f x₀ x n
+filled-all at n f x₀ x i h l = subst (Filled at n f x₀ x) (le-antisymm (h .upto) l) h
 
 -- A list that is filled from its first place on, place by place.
 pub filled-front : (n : ℕ) (f : ℕ → ℕ) (x₀ x : List ℕ) (i : ℕ) → Filled 0 n f x₀ x i → (k : ℕ) → k < i → getD x k 0 ≡ f k

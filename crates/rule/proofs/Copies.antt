@@ -1,4 +1,4 @@
--- Laws of the copies: a filled part; rows one after another.
+-- Laws of the copies: rows one after another.
 -- Assumes nothing.
 use mathlib.Core.Path.{_≡_, refl, subst, _∙_}
 use mathlib.Core.List.{List, []}
@@ -12,10 +12,6 @@ use Rattle.lists.proofs.Fill.{Filled}
 use Rattle.lists.proofs.Store.{row-fits}
 use Rattle.linear.specs.Flat.{place}
 use Rattle.rule.specs.Copied.{Copied}
-
--- A loop that has come to the end has filled all.
-pub filled-all : (at n : ℕ) (f : ℕ → ℕ) (x₀ x : List ℕ) (i : ℕ) → Filled at n f x₀ x i → n ≤ i → Filled at n f x₀ x n
-filled-all at n f x₀ x i h l = subst (Filled at n f x₀ x) (le-antisymm (h .upto) l) h
 
 module _ (e : ℕ) (table : List (List ℕ)) (x₀ : List ℕ) where
   pub copied-start : Copied 0 e table x₀ x₀

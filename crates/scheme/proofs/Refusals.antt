@@ -175,8 +175,8 @@ module _ (s : Shape) (labels entries : List ℕ) (fits f : Bool) (more r : ℕ) 
   call-more h = sym
       (refusal-more s labels entries fits more ∙ ap (λ k. orElse k more) (sym (e ∙ ap (λ b. refusalOf s labels entries b 0) q) ∙ h))
 
--- The lengths of a call's own lists count only where e is at most 12, since a larger e is refused before them.
-pub refusal-lengths : (s : Shape) (labels entries : List ℕ) (a b : Bool) (more : ℕ) → (s .e ≤ 12 → a ≡ b)
+-- The lengths of a call's own lists count only where d is at most 32 and e at most 12: a larger d or e is refused before them.
+pub refusal-lengths : (s : Shape) (labels entries : List ℕ) (a b : Bool) (more : ℕ) → (s .d ≤ 32 → s .e ≤ 12 → a ≡ b)
     → refusalOf s labels entries a more ≡ refusalOf s labels entries b more
 unfolding refusalOf
 refusal-lengths s labels entries a b more same = cases (numbersRefusal s) refl
@@ -186,5 +186,7 @@ refusal-lengths s labels entries a b more same = cases (numbersRefusal s) refl
         (orElse (contentRefusal (s .p) (s .n) labels entries) more)
 
     cases : (k : ℕ) → numbersRefusal s ≡ k → orElse (numbersRefusal s) (tests a) ≡ orElse (numbersRefusal s) (tests b)
-    cases zero q = ap (λ c. orElse (numbersRefusal s) (tests c)) (same (within-true 1 12 (s .e) (numbers s q .e-right) .1))
+    cases zero q =
+        let n = numbers s q in
+        ap (λ c. orElse (numbersRefusal s) (tests c)) (same (within-true 1 32 (s .d) (n .d-right) .1) (within-true 1 12 (s .e) (n .e-right) .1))
     cases (suc k) q = ap (λ (n : ℕ). orElse n (tests a)) q ∙ sym (ap (λ (n : ℕ). orElse n (tests b)) q)

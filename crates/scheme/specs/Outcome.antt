@@ -17,6 +17,6 @@ leftAt zero old new = new
 leftAt (suc k) old new = old
 
 -- "writes the first d and d times e, leaves the other places unchanged": new numbers over the first places of old,
--- of which there are never fewer.
+-- which is never shorter than new.
 abbrev pub over : List ℕ → List ℕ → List ℕ
 over new old = new ++ drop (length new) old

@@ -4,9 +4,8 @@ use mathlib.Core.Path.{refl}
 use Prim.Native.Nat.{_-_}
 use native.Mathlib.Omega.{arith}
 use lib.ListN.{length}
-use Rattle.lists.proofs.Fill.{Filled, fill-start, fill-turn}
+use Rattle.lists.proofs.Fill.{Filled, fill-start, fill-turn, filled-all}
 use Rattle.linear.specs.Flat.{place}
-use Rattle.rule.proofs.Copies.{filled-all}
 use Rattle.rule.proofs.copy.Statement.{statement}
 use Rattle.rule.proofs.copy.Tie as tie
 
