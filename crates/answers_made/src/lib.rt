@@ -50,13 +50,10 @@ fn bytes_rule(xs: &[u32], text: &[u32], space: &mut [u8], labels: usize, entries
     true
 }
 
-// The places for the bytes of a text: no request has a longer one.
-const MOST: usize = 2048;
-
 fn text_rule(xs: &[u32], text: &[u32], labels: usize, entries: usize) -> bool {
     let mut space = requests::byte_places();
     let n = text.len();
-    if n > MOST {
+    if n > requests::MOST {
         return false;
     }
     bytes_rule(xs, text, &mut space[0..n], labels, entries)

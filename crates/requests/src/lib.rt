@@ -291,8 +291,8 @@ pub fn past_scheme(xs: &[u32]) -> usize
     past_list(xs, past_list(xs, 4))
 }
 
-// The places of a result list: no request lends more.
-const MOST: usize = 2048;
+// The places of a result list, and of a list of bytes: no request has more.
+pub const MOST: usize = 2048;
 
 pub fn results() -> [u32; 2048]
     ensures { λ r. ⌜ 2048 ≡ length r ⌝ }
