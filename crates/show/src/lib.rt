@@ -2,6 +2,8 @@
 // results.
 use libc::STDOUT_FILENO;
 use scheme::Outcome;
+ghost use mathlib.Core.Path.{_≡_};
+ghost use lib.ListN.{length};
 
 // What each place of a result list holds before a call, so that a line shows which places the call left as they were.
 const MARK: u32 = 61681;
@@ -12,6 +14,16 @@ pub fn mark(xs: &mut [u32]) {
         xs[i] = MARK;
         i += 1;
     }
+}
+
+// The same for a list of bytes, which cannot hold that number: its last byte.
+const BYTE_MARK: u8 = 241;
+
+// Places for a result list of bytes, marked.
+pub fn marked_bytes() -> [u8; 2048]
+    ensures { λ r. ⌜ 2048 ≡ length r ⌝ }
+{
+    [241; 2048]
 }
 
 pub fn text(bytes: &[u8]) {
@@ -86,6 +98,45 @@ fn numbers(xs: &[u32]) {
     while i < xs.len() {
         let start = free(out, at);
         at = put_number(out, start, xs[i]);
+        i += 1;
+    }
+    write_first(out, at);
+}
+
+// A list of bytes that a call has filled: each byte as it is.
+pub fn filled_bytes(xs: &[u8]) {
+    bytes(xs, BYTE_MARK as u32);
+}
+
+// A list of bytes that a call had to leave: where the mark stands, the mark of every other list is written.
+pub fn left_bytes(xs: &[u8]) {
+    bytes(xs, MARK);
+}
+
+fn bytes(xs: &[u8], mark: u32) {
+    text(b" |");
+    if xs.len() == 0 {
+        text(b" ");
+    }
+    byte_numbers(xs, mark);
+}
+
+// The number that stands for a byte.
+fn byte_number(x: u8, mark: u32) -> u32 {
+    if x == BYTE_MARK {
+        return mark;
+    }
+    x as u32
+}
+
+fn byte_numbers(xs: &[u8], mark: u32) {
+    let mut space = io::buffer();
+    let out: &mut [u8] = &mut space;
+    let mut at = 0;
+    let mut i = 0;
+    while i < xs.len() {
+        let start = free(out, at);
+        at = put_number(out, start, byte_number(xs[i], mark));
         i += 1;
     }
     write_first(out, at);

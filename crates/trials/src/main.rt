@@ -1,7 +1,7 @@
 // Request lines answered: standard input has a request a line, a call's name and its numbers. For each this writes a line: the name, the
 // answer, and after ` | ` the numbers of each list lent for results, 61681 where the call left a place as it was. A line that is no request
-// (an unknown name, numbers missing or left over, a number that is no decimal below 2^32, a byte above 255, a result list or a text of more
-// than 2,048 places, more than 16,384 numbers or 131,072 bytes) is answered by `?`.
+// (an unknown name, numbers missing or left over, a number that is no decimal below 2^32, a byte above 255, a result list, a text or a file of
+// more than 2,048 places, more than 16,384 numbers or 131,072 bytes) is answered by `?`.
 //
 // The numbers of a call; a list is its length and then its numbers, a scheme is p, n, d, e, the labels and the entries:
 //   check      scheme
@@ -11,8 +11,10 @@
 //   product    scheme, length of r, length of w
 //   threshold  scheme, t
 //   rule       p, n, text (a list of bytes), length of the list for the labels, length of the list for the entries
+//   write      scheme, length of the list for the file
+//   read       file (a list of bytes), length of the list for the labels, length of the list for the entries
 //
-// The crate answers has the first six, answers_made the last. The file stdin has document 01's examples, refused calls of every kind, and
+// The crate answers has the first six, answers_made the others. The file stdin has document 01's examples, refused calls of every kind, and
 // then requests of these calls from
 //   python3 FOLDER/requests.py 7 3000 base | python3 FOLDER/trials.py --from-json
 // where FOLDER has the second program; the lines of rule stand after those of the six. The file stdout is what that program answers:
@@ -43,6 +45,12 @@ fn request(name: &[u8], xs: &[u32]) -> bool {
     }
     if check::same(name, b"rule") {
         return answers_made::rule_line(xs);
+    }
+    if check::same(name, b"write") {
+        return answers_made::write_line(xs);
+    }
+    if check::same(name, b"read") {
+        return answers_made::read_line(xs);
     }
     false
 }
