@@ -33,9 +33,9 @@ module _ (who : ℕ) (labels : List ℕ) (i : ℕ) (h : i < length labels) where
     unfolding laid
     lay-here e m =
         let t : take (i + 1) (set stored i (getD shares k 0)) ≡ take i stored ++ (getD shares k 0 ∷ []) =
-            rw add-one (take-suc-set stored i (getD shares k 0) g) in
+        rw add-one (take-suc-set stored i (getD shares k 0) g) in
         let u : drop (i + 1) (set stored i (getD shares k 0)) ≡ drop (i + 1) stored =
-            drop-set-lt (i + 1) stored i (getD shares k 0) (omega arith) in
+        drop-set-lt (i + 1) stored i (getD shares k 0) (omega arith) in
         rw (drop-next labels i h, drop-next stored i g, drop-next shares k m, eq-eqb _ _ e, t, u, append-assoc)
 
     pub lay-not : (getD labels i 0 ≡ who → ⊥)

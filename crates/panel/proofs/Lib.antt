@@ -1,1 +1,3 @@
 pub mod Laying
+pub mod Refused
+pub mod Answers

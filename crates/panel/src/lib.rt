@@ -191,7 +191,16 @@ fn blank() -> Panel
     let labels = [0u32; 32];
     let entries = [0u32; 384];
     let stored = [0u32; 32];
-    Panel { p: 0, n: 0, d: 0, e: 0, cards: 0, labels: labels, entries: entries, stored: stored }
+    Panel {
+        p: 0,
+        n: 0,
+        d: 0,
+        e: 0,
+        cards: 0,
+        labels: labels,
+        entries: entries,
+        stored: stored,
+    }
 }
 
 // A panel without cards, its lists copied.
@@ -204,7 +213,16 @@ fn filled(s: Shape, labels: &[u32], entries: &[u32]) -> Panel
     let stored = [0u32; 32];
     copy(labels, &mut own_labels);
     copy(entries, &mut own_entries);
-    Panel { p: s.p, n: s.n, d: s.d, e: s.e, cards: 0, labels: own_labels, entries: own_entries, stored: stored }
+    Panel {
+        p: s.p,
+        n: s.n,
+        d: s.d,
+        e: s.e,
+        cards: 0,
+        labels: own_labels,
+        entries: own_entries,
+        stored: stored,
+    }
 }
 
 // Makes a panel from a scheme. Wrong answers that the contract rules out: a panel with a scheme that checking refuses; one with a card in it.
@@ -214,10 +232,16 @@ pub fn fresh(s: Shape, labels: &[u32], entries: &[u32]) -> Started
     let bad = scheme::refusal(s, labels, entries, true);
     if bad != 0 {
         let none = blank();
-        return Started { said: Outcome::Refused(bad), panel: none };
+        return Started {
+            said: Outcome::Refused(bad),
+            panel: none,
+        };
     }
     let panel = filled(s, labels, entries);
-    Started { said: Outcome::Done, panel: panel }
+    Started {
+        said: Outcome::Done,
+        panel: panel,
+    }
 }
 
 impl Panel {
@@ -226,7 +250,12 @@ impl Panel {
     {
         let d = self.d;
         let e = self.e;
-        let s = Shape { p: self.p, n: self.n, d: d, e: e };
+        let s = Shape {
+            p: self.p,
+            n: self.n,
+            d: d,
+            e: e,
+        };
         let bad = scheme::numbers_refusal(s);
         if bad != 0 {
             return bad;
@@ -235,7 +264,15 @@ impl Panel {
         let labels = self.labels;
         let entries = self.entries;
         let stored = self.stored;
-        put_lists_refusal(s, &labels[0..d], &entries[0..m], self.cards, &stored[0..d], who, shares)
+        put_lists_refusal(
+            s,
+            &labels[0..d],
+            &entries[0..m],
+            self.cards,
+            &stored[0..d],
+            who,
+            shares,
+        )
     }
 
     fn take_refusal(self, who: u32) -> u32
@@ -243,7 +280,12 @@ impl Panel {
     {
         let d = self.d;
         let e = self.e;
-        let s = Shape { p: self.p, n: self.n, d: d, e: e };
+        let s = Shape {
+            p: self.p,
+            n: self.n,
+            d: d,
+            e: e,
+        };
         let bad = scheme::numbers_refusal(s);
         if bad != 0 {
             return bad;
@@ -252,7 +294,14 @@ impl Panel {
         let labels = self.labels;
         let entries = self.entries;
         let stored = self.stored;
-        take_lists_refusal(s, &labels[0..d], &entries[0..m], self.cards, &stored[0..d], who)
+        take_lists_refusal(
+            s,
+            &labels[0..d],
+            &entries[0..m],
+            self.cards,
+            &stored[0..d],
+            who,
+        )
     }
 
     // Puts a card in. Wrong answers that the contract rules out: a mark without the shares stored; shares stored at another participant's rows;
@@ -262,7 +311,10 @@ impl Panel {
     {
         let bad = self.put_refusal(who, shares);
         if bad != 0 {
-            return Told { said: Outcome::Refused(bad), panel: self };
+            return Told {
+                said: Outcome::Refused(bad),
+                panel: self,
+            };
         }
         let d = self.d;
         let labels = self.labels;
@@ -270,8 +322,20 @@ impl Panel {
         let mut stored = self.stored;
         lay(who, &labels[0..d], shares, &mut stored);
         let cards = self.cards + mark(who);
-        let panel = Panel { p: self.p, n: self.n, d: d, e: self.e, cards: cards, labels: labels, entries: entries, stored: stored };
-        Told { said: Outcome::Done, panel: panel }
+        let panel = Panel {
+            p: self.p,
+            n: self.n,
+            d: d,
+            e: self.e,
+            cards: cards,
+            labels: labels,
+            entries: entries,
+            stored: stored,
+        };
+        Told {
+            said: Outcome::Done,
+            panel: panel,
+        }
     }
 
     // Takes a card out. Wrong answers that the contract rules out: another card taken out too; a stored share changed.
@@ -280,14 +344,29 @@ impl Panel {
     {
         let bad = self.take_refusal(who);
         if bad != 0 {
-            return Told { said: Outcome::Refused(bad), panel: self };
+            return Told {
+                said: Outcome::Refused(bad),
+                panel: self,
+            };
         }
         let cards = self.cards - mark(who);
         let labels = self.labels;
         let entries = self.entries;
         let stored = self.stored;
-        let panel = Panel { p: self.p, n: self.n, d: self.d, e: self.e, cards: cards, labels: labels, entries: entries, stored: stored };
-        Told { said: Outcome::Done, panel: panel }
+        let panel = Panel {
+            p: self.p,
+            n: self.n,
+            d: self.d,
+            e: self.e,
+            cards: cards,
+            labels: labels,
+            entries: entries,
+            stored: stored,
+        };
+        Told {
+            said: Outcome::Done,
+            panel: panel,
+        }
     }
 
     // The code of the cards that are in. Wrong answers that the contract rules out: a share read whose card is out; a code from a set that is
@@ -297,16 +376,27 @@ impl Panel {
     {
         let d = self.d;
         let e = self.e;
-        let s = Shape { p: self.p, n: self.n, d: d, e: e };
+        let s = Shape {
+            p: self.p,
+            n: self.n,
+            d: d,
+            e: e,
+        };
         let bad = scheme::numbers_refusal(s);
         if bad != 0 {
-            return Coded { said: Joined::Refused(bad), panel: self };
+            return Coded {
+                said: Joined::Refused(bad),
+                panel: self,
+            };
         }
         let m = d * e;
         let labels = self.labels;
         let entries = self.entries;
         let stored = self.stored;
         let said = join::join(s, &labels[0..d], &entries[0..m], self.cards, &stored[0..d]);
-        Coded { said: said, panel: self }
+        Coded {
+            said: said,
+            panel: self,
+        }
     }
 }

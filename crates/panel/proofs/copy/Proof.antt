@@ -44,7 +44,7 @@ same-length : tie.Need-same-length Inv-loop μ-loop
 same-length c = c .before .loop .inv .size
 
 returns : tie.Need-returns Inv-loop μ-loop
-returns c = copied _ _ _ _ (c .before .loop .inv) (c .loop-test .left) (c .before .before .pre)
+returns c = copied (c .before .before .args .from .now) _ _ _ (c .before .loop .inv) (c .loop-test .left) (c .before .before .pre)
 
 pub copy-spec : {M : Type 1} → statement M
 copy-spec =

@@ -58,13 +58,19 @@ loop-again c =
     let a = c .before .before .before .before .args in
     ⊎-elim
     (λ w.
-      let e = own-here (a .who) (a .labels .now) (l .i) (search needs) (w .0 .taken) in
-      (search needs, rw (w .2) (simp length-set (l .inv .1)), omega arith,
-       rw (w .2, w .3) (sym (lay-here (a .who) (a .labels .now) (l .i) (search needs) (a .shares .now) (l .stored) (l .k) (search needs) (w .0 .taken)) ∙ l .inv .3)))
+    let e = own-here (a .who) (a .labels .now) (l .i) (search needs) (w .0 .taken) in (
+      search needs,
+      rw (w .2) (simp length-set (l .inv .1)),
+      omega arith,
+      rw (w .2, w .3) (sym (lay-here (a .who) (a .labels .now) (l .i) (search needs) (a .shares .now) (l .stored) (l .k) (search needs) (w .0 .taken) (omega arith)) ∙ l .inv .3),
+    ))
     (λ w.
-      let e = own-not (a .who) (a .labels .now) (l .i) (search needs) (w .0 .left) in
-      (search needs, rw (w .1) (l .inv .1), omega arith,
-       rw (w .1, w .2) (sym (lay-not (a .who) (a .labels .now) (l .i) (search needs) (a .shares .now) (l .stored) (l .k) (search needs) (w .0 .left)) ∙ l .inv .3)))
+    let e = own-not (a .who) (a .labels .now) (l .i) (search needs) (w .0 .left) in (
+      search needs,
+      rw (w .1) (l .inv .1),
+      omega arith,
+      rw (w .1, w .2) (sym (lay-not (a .who) (a .labels .now) (l .i) (search needs) (a .shares .now) (l .stored) (l .k) (search needs) (w .0 .left)) ∙ l .inv .3),
+    ))
     (c .if1 .came)
 
 same-length : tie.Need-same-length Inv-loop μ-loop

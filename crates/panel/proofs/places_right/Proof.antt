@@ -1,27 +1,25 @@
+-- `panel::places_right` meets its contract.
+-- Assumes nothing.
 use borrow.Author.Needs.{needs}
 use native.Mathlib.Omega.{arith}
+use mathlib.Core.Path.{sym, ap, ap₂, _∙_}
+use mathlib.Core.Bool.{not, _||_}
+use lib.Dec.{eqb}
+use Rattle.scheme.proofs.Tests.{failed, passed}
 use Rattle.panel.proofs.places_right.Statement.{statement}
 use Rattle.panel.proofs.places_right.Tie as tie
-use Rattle.panel.proofs.places_right.Reads as reads
-use Rattle.panel.proofs.places_right.Lts as lts
-use Rattle.panel.proofs.count_rows.Reads as count-rows-reads
-use Rattle.scheme.proofs.between.Reads as between-reads
 
--- src/lib.rt:100:9
 between-requires : tie.Need-between-requires
 between-requires c κs = search needs
 
--- src/lib.rt:101:9
 returns : tie.Need-returns
-returns c = ?
+returns c = simp (failed (c .before .between .ensures) (c .if1 .taken))
 
--- src/lib.rt:103:15
 count-rows-requires : tie.Need-count-rows-requires
 count-rows-requires c κs = search needs
 
--- src/lib.rt:97:1
 returns-2 : tie.Need-returns-2
-returns-2 c = ?
+returns-2 c = let e = c .count-rows .ensures in simp (passed (c .before .before .between .ensures) (c .before .if1 .left), e)
 
 pub places-right-spec : {M : Type 1} → statement M
 places-right-spec = tie.close (tie.spec between-requires returns count-rows-requires returns-2)

@@ -1,50 +1,50 @@
+-- `panel::put_lists_refusal` meets its contract: at each return what comes before it refuses nothing (proofs/Refused.antt).
+-- Assumes nothing.
 use borrow.Author.Needs.{needs}
 use native.Mathlib.Omega.{arith}
+use mathlib.Core.Path.{sym, ap, _∙_}
+use mathlib.Core.Bool.{not}
+use Rattle.scheme.specs.Tests.{unless}
+use Rattle.panel.proofs.Refused.{lists-stand, lists-on, lists-none, who-inside}
 use Rattle.panel.proofs.put_lists_refusal.Statement.{statement}
 use Rattle.panel.proofs.put_lists_refusal.Tie as tie
-use Rattle.panel.proofs.put_lists_refusal.Reads as reads
-use Rattle.panel.proofs.put_lists_refusal.Lts as lts
-use Rattle.panel.proofs.lists_refusal.Reads as lists-refusal-reads
-use Rattle.panel.proofs.places_right.Reads as places-right-reads
-use Rattle.scheme.proofs.all_below.Reads as all-below-reads
-use Rattle.scheme.proofs.between.Reads as between-reads
-use Rattle.sets.proofs.in_set.Reads as in-set-reads
 
--- src/lib.rt:152:36
 cast-between : tie.Need-cast-between
 cast-between c = search needs
 
--- src/lib.rt:152:9
 between-requires : tie.Need-between-requires
 between-requires c κs = search needs
 
--- src/lib.rt:153:9
 places-right-requires : tie.Need-places-right-requires
 places-right-requires c κs = search needs
 
--- src/lib.rt:154:9
 all-below-requires : tie.Need-all-below-requires
 all-below-requires c κs = search needs
 
--- src/lib.rt:155:9
 lists-refusal-requires : tie.Need-lists-refusal-requires
-lists-refusal-requires c κs = ?
+lists-refusal-requires c κs = c .before .before .before .before .before .before .before .before .pre
 
--- src/lib.rt:157:9
 returns : tie.Need-returns
-returns c = ?
+returns c =
+    let a = c .before .before .before .before .before .before .before .before .before .before .args in
+    lists-stand (a .s) (a .labels .now) (a .entries .now) (a .cards) (a .stored .now) _ _ _ _ _ _ (c .before .before .before .places-right .ensures) (c .before .before .before .before .between .ensures) (c .before .before .all-below .ensures) _ (c .before .lists-refusal .ensures) _ (c .if1 .taken)
 
--- src/lib.rt:159:8
 in-set-requires : tie.Need-in-set-requires
-in-set-requires c κs = ?
+in-set-requires c κs =
+    let a = c .before .before .before .before .before .before .before .before .before .before .args in
+    who-inside (a .s) (a .labels .now) (a .entries .now) (a .cards) (a .stored .now) _ (a .who) _ _ (lists-none (a .s) (a .labels .now) (a .entries .now) (a .cards) (a .stored .now) _ _ _ _ _ _ (c .before .before .before .places-right .ensures) (c .before .before .before .before .between .ensures) (c .before .before .all-below .ensures) _ (c .before .lists-refusal .ensures) (c .if1 .left))
 
--- src/lib.rt:160:9
 returns-2 : tie.Need-returns-2
-returns-2 c = ?
+returns-2 c =
+    let a = c .before .before .before .before .before .before .before .before .before .before .before .before .args in
+    ap (λ b. unless (not b) 21) (sym (c .if2 .taken) ∙ c .before .in-set .ensures)
+    ∙ lists-on (a .s) (a .labels .now) (a .entries .now) (a .cards) (a .stored .now) _ _ _ _ _ _ (c .before .before .before .before .before .places-right .ensures) (c .before .before .before .before .before .before .between .ensures) (c .before .before .before .before .all-below .ensures) _ (c .before .before .before .lists-refusal .ensures) _ (c .before .before .if1 .left)
 
--- src/lib.rt:140:1
 returns-3 : tie.Need-returns-3
-returns-3 c = ?
+returns-3 c =
+    let a = c .before .before .before .before .before .before .before .before .before .before .before .before .args in
+    ap (λ b. unless (not b) 21) (sym (c .if2 .left) ∙ c .before .in-set .ensures)
+    ∙ lists-on (a .s) (a .labels .now) (a .entries .now) (a .cards) (a .stored .now) _ _ _ _ _ _ (c .before .before .before .before .before .places-right .ensures) (c .before .before .before .before .before .before .between .ensures) (c .before .before .before .before .all-below .ensures) _ (c .before .before .before .lists-refusal .ensures) _ (c .before .before .if1 .left)
 
 pub put-lists-refusal-spec : {M : Type 1} → statement M
 put-lists-refusal-spec =

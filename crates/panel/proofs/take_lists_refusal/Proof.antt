@@ -1,40 +1,44 @@
+-- `panel::take_lists_refusal` meets its contract: at each return what comes before it refuses nothing (proofs/Refused.antt).
+-- Assumes nothing.
 use native.Mathlib.Omega.{arith}
 use borrow.Author.Needs.{needs}
+use mathlib.Core.Path.{refl, sym, ap, _∙_}
+use borrow.Author.Tests.{not-true, not-false}
+use Rattle.scheme.specs.Tests.{unless}
+use Rattle.panel.proofs.Refused.{lists-stand, lists-on, lists-none, who-inside}
 use Rattle.panel.proofs.take_lists_refusal.Statement.{statement}
 use Rattle.panel.proofs.take_lists_refusal.Tie as tie
-use Rattle.panel.proofs.take_lists_refusal.Reads as reads
-use Rattle.panel.proofs.take_lists_refusal.Lts as lts
-use Rattle.panel.proofs.lists_refusal.Reads as lists-refusal-reads
-use Rattle.scheme.proofs.between.Reads as between-reads
-use Rattle.sets.proofs.in_set.Reads as in-set-reads
 
--- src/lib.rt:176:36
 cast-between : tie.Need-cast-between
 cast-between c = search needs
 
--- src/lib.rt:176:9
 between-requires : tie.Need-between-requires
 between-requires c κs = search needs
 
--- src/lib.rt:177:9
 lists-refusal-requires : tie.Need-lists-refusal-requires
-lists-refusal-requires c κs = ?
+lists-refusal-requires c κs = c .before .before .before .before .before .pre
 
--- src/lib.rt:179:9
 returns : tie.Need-returns
-returns c = ?
+returns c =
+    let a = c .before .before .before .before .before .before .before .args in
+    lists-stand (a .s) (a .labels .now) (a .entries .now) (a .cards) (a .stored .now) _ _ _ _ _ _ refl (c .before .before .between .ensures) refl _ (c .before .lists-refusal .ensures) _ (c .if1 .taken)
 
--- src/lib.rt:181:9
 in-set-requires : tie.Need-in-set-requires
-in-set-requires c κs = ?
+in-set-requires c κs =
+    let a = c .before .before .before .before .before .before .before .args in
+    who-inside (a .s) (a .labels .now) (a .entries .now) (a .cards) (a .stored .now) _ (a .who) _ _ (lists-none (a .s) (a .labels .now) (a .entries .now) (a .cards) (a .stored .now) _ _ _ _ _ _ refl (c .before .before .between .ensures) refl _ (c .before .lists-refusal .ensures) (c .if1 .left))
 
--- src/lib.rt:182:9
 returns-2 : tie.Need-returns-2
-returns-2 c = ?
+returns-2 c =
+    let a = c .before .before .before .before .before .before .before .before .before .args in
+    ap (λ b. unless b 22) (sym (not-true _ (c .if2 .taken)) ∙ c .before .in-set .ensures)
+    ∙ lists-on (a .s) (a .labels .now) (a .entries .now) (a .cards) (a .stored .now) _ _ _ _ _ _ refl (c .before .before .before .before .between .ensures) refl _ (c .before .before .before .lists-refusal .ensures) _ (c .before .before .if1 .left)
 
--- src/lib.rt:165:1
 returns-3 : tie.Need-returns-3
-returns-3 c = ?
+returns-3 c =
+    let a = c .before .before .before .before .before .before .before .before .before .args in
+    ap (λ b. unless b 22) (sym (not-false _ (c .if2 .left)) ∙ c .before .in-set .ensures)
+    ∙ lists-on (a .s) (a .labels .now) (a .entries .now) (a .cards) (a .stored .now) _ _ _ _ _ _ refl (c .before .before .before .before .between .ensures) refl _ (c .before .before .before .lists-refusal .ensures) _ (c .before .before .if1 .left)
 
 pub take-lists-refusal-spec : {M : Type 1} → statement M
 take-lists-refusal-spec =
