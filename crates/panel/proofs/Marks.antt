@@ -10,7 +10,7 @@ use lib.Pow.{pow-add}
 use Rattle.algebra.proofs.Cases.{below-suc}
 use Rattle.linear.specs.Bits.{bit}
 use Rattle.scheme.specs.Sets.{inSet}
-use Rattle.panel.specs.History.{Held, isIn, setOf}
+use Rattle.panel.specs.History.{Held, noCards, isIn, setOf}
 
 -- 2 to the n, or 0.
 abbrev part : ℕ → Bool → ℕ
@@ -83,11 +83,11 @@ unfolding setOf
 change zero held held′ i l h = absurd (not-suc-le-zero l)
 change (suc n) held held′ i l h = below-suc
     (λ i. ((j : ℕ) → (j ≡ suc i → ⊥) → isIn (held j) ≡ isIn (held′ j))
-      → setOf n held′ + part n (isIn (held′ (suc n))) + part i (isIn (held (suc i)))
-      ≡ setOf n held + part n (isIn (held (suc n))) + part i (isIn (held′ (suc i))))
+    → setOf n held′ + part n (isIn (held′ (suc n))) + part i (isIn (held (suc i)))
+    ≡ setOf n held + part n (isIn (held (suc n))) + part i (isIn (held′ (suc i))))
     n
     (λ i l h. let q : part n (isIn (held (suc n))) ≡ part n (isIn (held′ (suc n))) = ap (part n) (h (suc n) (λ e. omega arith)) in
-      omega (arith, change n held held′ i l h, q))
+    omega (arith, change n held held′ i l h, q))
     (λ h. omega (arith, set-same n held held′ (λ j lj uj. h j (λ e. omega arith))))
     i l h
 
@@ -98,3 +98,9 @@ set-change n held held′ who l u h =
     ap (λ (i : ℕ). setOf n held′ + part (who - 1) (isIn (held i))) (sym q)
     ∙ change n held held′ (who - 1) (omega arith) (λ j ne. h j (λ e. ne (e ∙ sym q)))
     ∙ ap (λ (i : ℕ). setOf n held + part (who - 1) (isIn (held′ i))) q
+
+-- No cards, no marks.
+pub set-none : (n : ℕ) → setOf n noCards ≡ 0
+unfolding setOf
+set-none zero = refl
+set-none (suc n) = omega (arith, set-none n)

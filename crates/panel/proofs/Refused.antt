@@ -1,6 +1,6 @@
 -- The refusals of a call on a panel, number by number: what the tests that are passed leave of them; and what holds where none applies.
 -- Assumes nothing.
-use mathlib.Core.Path.{_≡_, refl, sym, ap, _∙_}
+use mathlib.Core.Path.{_≡_, refl, sym, ap, ap₂, _∙_}
 use mathlib.Core.Bool.{Bool, true, false, not, _&&_, _||_}
 use mathlib.Core.List.{List}
 use mathlib.Core.Logic.{⊎-elim}
@@ -10,11 +10,11 @@ use native.Mathlib.Omega.{arith}
 use lib.Dec.{eqb, ltb}
 use lib.ListN.{length}
 use lib.Pow.{pow-mono}
-use borrow.Author.Tests.{eqb-true, ltb-true}
+use borrow.Author.Tests.{eqb-true, ltb-true, lt-ltb}
 use Rattle.algebra.proofs.Cases.{lt-or-ge}
 use Rattle.linear.specs.Bits.{bit}
 use Rattle.scheme.specs.declared.Shape.{Shape}
-use Rattle.scheme.specs.Refusal.{numbersRefusal, refusalOf, readBelow}
+use Rattle.scheme.specs.Refusal.{numbersRefusal, refusalOf, readBelow, IsScheme}
 use Rattle.scheme.specs.Sets.{inSet}
 use Rattle.scheme.specs.Tests.{within, eachBelow, unless, orElse}
 use Rattle.scheme.proofs.Refusals.{stands, orElse-zero, orElse-assoc, orElse-none, unless-zero, and-true, refusal-more, numbers, Valid, valid, valid-fits}
@@ -180,3 +180,12 @@ take-accepted a who z =
     (unless (inSet (a .cards) who) 22) z in
     let w = who-inside (shapeOf a) (labelsOf a) (entriesOf a) (a .cards) (storedOf a) _ who _ _ h in
     record { low = w .0; high = w .1; fits = mark-in (a .cards) (who - 1) (unless-zero (inSet (a .cards) who) 21 (h .after)) }
+
+-- Nothing is refused where each test of a call holds.
+pub unrefused : (s : Shape) (labels entries : List ℕ) (cards : ℕ) (stored : List ℕ) (lengths who below : Bool) (more : ℕ)
+    → IsScheme s labels entries → lengths ≡ true → cards < 2 ^ s .n → who ≡ true → readBelow (s .p) cards labels stored ≡ true
+    → below ≡ true → more ≡ 0 → listsRefusal s labels entries cards stored lengths who below more ≡ 0
+unrefused s labels entries cards stored lengths who below more sound fits inside among read own after =
+    refusal-more s labels entries lengths _
+    ∙ ap₂ orElse (ap (λ b. refusalOf s labels entries b 0) fits ∙ sound)
+    (sym (none-wrong (ltb cards (2 ^ s .n)) who (readBelow (s .p) cards labels stored) below more (lt-ltb _ _ inside) among read own) ∙ after)
