@@ -20,7 +20,7 @@ pub enum Joined {
 }
 
 // Whether each share at the set's rows is below p; the other places are not read.
-fn read_below(p: u32, set: u32, labels: &[u32], shares: &[u32]) -> bool
+pub fn read_below(p: u32, set: u32, labels: &[u32], shares: &[u32]) -> bool
     requires { ⌜ length (now labels) ≡ length (now shares) ⌝ }
     requires { ⌜ ((k : ℕ) → k < length (now labels) → (1 ≤ getD (now labels) k 0) × (getD (now labels) k 0 ≤ 16)) ⌝ }
     ensures { λ r. ⌜ r ≡ readBelow p set (now (labels .entry)) (now (shares .entry)) ⌝ }

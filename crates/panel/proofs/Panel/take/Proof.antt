@@ -1,0 +1,31 @@
+-- `Panel::take` meets its contract: what is not refused has its mark taken off.
+-- Assumes nothing.
+use native.Mathlib.Omega.{arith}
+use borrow.Author.Needs.{needs}
+use Rattle.scheme.proofs.Refusals.{gone}
+use Rattle.panel.proofs.Refused.{take-accepted}
+use Rattle.panel.proofs.Answers.{told-refused, take-done}
+use Rattle.panel.proofs.Panel.take.Statement.{statement}
+use Rattle.panel.proofs.Panel.take.Tie as tie
+
+take-refusal-requires : tie.Need-take-refusal-requires
+take-refusal-requires c κs = search needs
+
+returns : tie.Need-returns
+returns c = told-refused _ _ _ _ (c .before .take-refusal .ensures) (c .if1 .taken)
+
+mark-requires : tie.Need-mark-requires
+mark-requires c κs =
+    let h = take-accepted (c .before .before .args .self) (c .before .before .args .who) (gone (c .before .take-refusal .ensures) (c .if1 .left)) in
+    (h .low, h .high)
+
+sub-cards : tie.Need-sub-cards
+sub-cards c =
+    let h = take-accepted (c .before .before .before .before .args .self) (c .before .before .before .before .args .who) (gone (c .before .before .before .take-refusal .ensures) (c .before .before .if1 .left)) in
+    omega (arith, h .fits, c .before .mark .ensures)
+
+returns-2 : tie.Need-returns-2
+returns-2 c = take-done (c .before .before .before .before .before .before .before .args .self) (c .before .before .before .before .before .before .before .args .who) _ (gone (c .before .before .before .before .before .before .take-refusal .ensures) (c .before .before .before .before .before .if1 .left)) (c .before .before .before .before .mark .ensures)
+
+pub take-spec : {M : Type 1} → statement M
+take-spec = tie.close (tie.spec take-refusal-requires returns mark-requires sub-cards returns-2)

@@ -1,0 +1,4 @@
+pub mod Cards
+pub mod Says
+pub mod History
+pub mod Steps
