@@ -8,8 +8,7 @@ ghost use Rattle.residue.specs.Prime.{Prime};
 ghost use Rattle.linear.specs.Combination.{total};
 ghost use Rattle.linear.specs.Flat.{place};
 ghost use Rattle.linear.specs.Bits.{bit};
-ghost use Rattle.scheme.specs.Sets.{ofSet};
-ghost use Rattle.scheme.specs.Refusal.{readBelow, joinRefusal};
+ghost use Rattle.scheme.specs.Refusal.{joinRefusal};
 ghost use Rattle.join.specs.Says.{JoinSays};
 ghost use Rattle.join.specs.Steps.{MaskedTo, FitsSays, RowsSay};
 
@@ -17,25 +16,6 @@ ghost use Rattle.join.specs.Steps.{MaskedTo, FitsSays, RowsSay};
 pub enum Joined {
     Code(u32),
     Refused(u32),
-}
-
-// Whether each share at the set's rows is below p; the other places are not read.
-pub fn read_below(p: u32, set: u32, labels: &[u32], shares: &[u32]) -> bool
-    requires { ⌜ length (now labels) ≡ length (now shares) ⌝ }
-    requires { ⌜ ((k : ℕ) → k < length (now labels) → (1 ≤ getD (now labels) k 0) × (getD (now labels) k 0 ≤ 16)) ⌝ }
-    ensures { λ r. ⌜ r ≡ readBelow p set (now (labels .entry)) (now (shares .entry)) ⌝ }
-{
-    let mut k = 0;
-    while k < labels.len() {
-        let i = labels[k];
-        if sets::in_set(set, i) {
-            if shares[k] >= p {
-                return false;
-            }
-        }
-        k += 1;
-    }
-    true
 }
 
 fn join_refusal(s: Shape, labels: &[u32], entries: &[u32], set: u32, shares: &[u32]) -> u32
@@ -50,7 +30,7 @@ fn join_refusal(s: Shape, labels: &[u32], entries: &[u32], set: u32, shares: &[u
     if outside != 0 {
         return outside;
     }
-    if !read_below(s.p, set, labels, shares) {
+    if !sets::read_below(s.p, set, labels, shares) {
         return 9;
     }
     0

@@ -128,7 +128,7 @@ fn lists_refusal(
     if !among {
         return 8;
     }
-    if !join::read_below(s.p, cards, labels, stored) {
+    if !sets::read_below(s.p, cards, labels, stored) {
         return 9;
     }
     if !below {

@@ -5,7 +5,7 @@ ghost use Prim.Native.Nat.{ℕ, _<_, _≤_, _^_};
 ghost use lib.ListN.{length, getD};
 ghost use Rattle.linear.specs.Bits.{bit};
 ghost use Rattle.scheme.specs.Sets.{inSet, ofSet};
-ghost use Rattle.scheme.specs.Refusal.{setRefusal};
+ghost use Rattle.scheme.specs.Refusal.{setRefusal, readBelow};
 
 // Refusal 8 for a set number with a bit from n up.
 pub fn set_refusal(n: u32, set: u32) -> u32
@@ -51,4 +51,23 @@ pub fn chosen_rows(set: u32, labels: &[u32]) -> u32
         chosen = chosen * 2 + one_if(b);
     }
     chosen
+}
+
+// Whether each share at the set's rows is below p; the other places are not read.
+pub fn read_below(p: u32, set: u32, labels: &[u32], shares: &[u32]) -> bool
+    requires { ⌜ length (now labels) ≡ length (now shares) ⌝ }
+    requires { ⌜ ((k : ℕ) → k < length (now labels) → (1 ≤ getD (now labels) k 0) × (getD (now labels) k 0 ≤ 16)) ⌝ }
+    ensures { λ r. ⌜ r ≡ readBelow p set (now (labels .entry)) (now (shares .entry)) ⌝ }
+{
+    let mut k = 0;
+    while k < labels.len() {
+        let i = labels[k];
+        if in_set(set, i) {
+            if shares[k] >= p {
+                return false;
+            }
+        }
+        k += 1;
+    }
+    true
 }

@@ -1,4 +1,4 @@
--- `join::read_below` meets its contract. The loop's invariant: what is left of the two lists gives the answer for all of them.
+-- `sets::read_below` meets its contract. The loop's invariant: what is left of the two lists gives the answer for all of them.
 -- Assumes nothing.
 use mathlib.Core.Logic.{⊎-elim}
 use mathlib.Core.Path.{_≡_, refl, sym, _∙_}
@@ -7,9 +7,9 @@ use native.Mathlib.Omega.{arith}
 use lib.ListN.{length, drop}
 use borrow.Author.Tests.{lt-ltb, le-ltb}
 use Rattle.scheme.specs.Refusal.{readBelow}
-use Rattle.join.proofs.Read.{read-stop, read-go, read-skip, read-end}
-use Rattle.join.proofs.read_below.Statement.{statement}
-use Rattle.join.proofs.read_below.Tie as tie
+use Rattle.sets.proofs.Read.{read-stop, read-go, read-skip, read-end}
+use Rattle.sets.proofs.read_below.Statement.{statement}
+use Rattle.sets.proofs.read_below.Tie as tie
 
 abbrev Inv-loop : tie.InvT-loop
 Inv-loop p set labels shares k₀ k = (k ≤ length labels) × (readBelow p set (drop k labels) (drop k shares) ≡ readBelow p set labels shares)
