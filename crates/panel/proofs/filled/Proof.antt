@@ -1,7 +1,6 @@
 -- `panel::filled` meets its contract: the lists are copied over zeros.
 -- Assumes nothing.
 use borrow.Author.Needs.{needs}
-use native.Mathlib.Omega.{arith}
 use Rattle.panel.proofs.Answers.{fresh-made}
 use Rattle.panel.proofs.filled.Statement.{statement}
 use Rattle.panel.proofs.filled.Tie as tie

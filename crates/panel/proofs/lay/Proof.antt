@@ -1,12 +1,12 @@
 -- `panel::lay` meets its contract. The loop's invariant: laying the rest of the shares at the rest of the rows gives the whole.
 -- Assumes nothing.
-use Prim.Native.Nat.{ℕ, _+_, _≤_, _<_, _-_}
-use mathlib.Core.Path.{_≡_, refl, sym, ap, _∙_}
+use Prim.Native.Nat.{_+_, _≤_, _-_}
+use mathlib.Core.Path.{_≡_, sym, _∙_}
 use mathlib.Core.List.{_++_}
 use mathlib.Core.Logic.{⊎-elim}
-use lib.ListN.{length, take, drop, getD, set, length-set}
+use lib.ListN.{length, take, drop, length-set}
 use Rattle.panel.specs.Cards.{rowsOf, laid}
-use Rattle.panel.proofs.Laying.{own-here, own-not, rows-end, lay-here, lay-not, lay-end}
+use Rattle.panel.proofs.Laying.{own-here, own-not, lay-here, lay-not, lay-end}
 use native.Mathlib.Omega.{arith}
 use borrow.Author.Needs.{needs}
 use Rattle.panel.proofs.lay.Statement.{statement}

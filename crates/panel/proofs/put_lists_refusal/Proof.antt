@@ -1,7 +1,6 @@
 -- `panel::put_lists_refusal` meets its contract: at each return what comes before it refuses nothing (proofs/Refused.antt).
 -- Assumes nothing.
 use borrow.Author.Needs.{needs}
-use native.Mathlib.Omega.{arith}
 use mathlib.Core.Path.{sym, ap, _∙_}
 use mathlib.Core.Bool.{not}
 use Rattle.scheme.specs.Tests.{unless}

@@ -1,6 +1,5 @@
 -- `panel::take_lists_refusal` meets its contract: at each return what comes before it refuses nothing (proofs/Refused.antt).
 -- Assumes nothing.
-use native.Mathlib.Omega.{arith}
 use borrow.Author.Needs.{needs}
 use mathlib.Core.Path.{refl, sym, ap, _∙_}
 use borrow.Author.Tests.{not-true, not-false}

@@ -6,7 +6,6 @@ use mathlib.Core.Path.{_≡_, refl, sym, _∙_}
 use Prim.Native.Nat.{ℕ}
 use native.Mathlib.Nat.{sub-zero}
 use lib.ListN.{length, length-map}
-use Rattle.tables.proofs.Parts.{part-length}
 use Rattle.scheme.proofs.Refusals.{gone, rows-few}
 use Rattle.join.proofs.Says.{refused-early}
 use Rattle.panel.proofs.Refused.{numbers-stand, rows-at-most}

@@ -5,7 +5,7 @@ use native.Mathlib.Omega.{arith}
 use mathlib.Core.Path.{_≡_, sym, _∙_}
 use Prim.Native.Nat.{ℕ}
 use native.Mathlib.Nat.{sub-zero}
-use lib.ListN.{length, length-map, length-take}
+use lib.ListN.{length, length-map}
 use Rattle.scheme.proofs.Refusals.{gone}
 use Rattle.tables.proofs.Parts.{part-length}
 use Rattle.panel.proofs.Refused.{put-accepted}

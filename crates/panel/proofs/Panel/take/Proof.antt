@@ -19,8 +19,8 @@ mark-requires c κs =
     let h = take-accepted (c .before .before .args .self) (c .before .before .args .who) (gone (c .before .take-refusal .ensures) (c .if1 .left)) in
     (h .low, h .high)
 
-sub-cards : tie.Need-sub-cards
-sub-cards c =
+sub-left : tie.Need-sub-left
+sub-left c =
     let h = take-accepted (c .before .before .before .before .args .self) (c .before .before .before .before .args .who) (gone (c .before .before .before .take-refusal .ensures) (c .before .before .if1 .left)) in
     omega (arith, h .fits, c .before .mark .ensures)
 
@@ -28,4 +28,4 @@ returns-2 : tie.Need-returns-2
 returns-2 c = take-done (c .before .before .before .before .before .before .before .args .self) (c .before .before .before .before .before .before .before .args .who) _ (gone (c .before .before .before .before .before .before .take-refusal .ensures) (c .before .before .before .before .before .if1 .left)) (c .before .before .before .before .mark .ensures)
 
 pub take-spec : {M : Type 1} → statement M
-take-spec = tie.close (tie.spec take-refusal-requires returns mark-requires sub-cards returns-2)
+take-spec = tie.close (tie.spec take-refusal-requires returns mark-requires sub-left returns-2)
