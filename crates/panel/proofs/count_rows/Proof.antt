@@ -45,7 +45,8 @@ loop-again c =
     (c .if1 .came)
 
 returns : tie.Need-returns Inv-loop μ-loop
-returns c = omega (arith, rows-end (c .before .before .args .who) (c .before .before .args .labels .now) (c .before .loop .i) (c .loop-test .left))
+returns c =
+    omega (arith, rows-end (c .before .before .args .who) (c .before .before .args .labels .now) (c .before .loop .i) (c .loop-test .left))
 
 pub count-rows-spec : {M : Type 1} → statement M
 count-rows-spec =

@@ -62,14 +62,16 @@ loop-again c =
       search needs,
       rw (w .2) (simp length-set (l .inv .1)),
       omega arith,
-      rw (w .2, w .3) (sym (lay-here (a .who) (a .labels .now) (l .i) (search needs) (a .shares .now) (l .stored) (l .k) (search needs) (w .0 .taken) (omega arith)) ∙ l .inv .3),
+      rw (w .2, w .3) (sym (lay-here (a .who) (a .labels .now) (l .i) (search needs) (a .shares .now) (l .stored) (l .k) (search needs)
+          (w .0 .taken) (omega arith)) ∙ l .inv .3),
     ))
     (λ w.
     let e = own-not (a .who) (a .labels .now) (l .i) (search needs) (w .0 .left) in (
       search needs,
       rw (w .1) (l .inv .1),
       omega arith,
-      rw (w .1, w .2) (sym (lay-not (a .who) (a .labels .now) (l .i) (search needs) (a .shares .now) (l .stored) (l .k) (search needs) (w .0 .left)) ∙ l .inv .3),
+      rw (w .1, w .2) (sym (lay-not (a .who) (a .labels .now) (l .i) (search needs) (a .shares .now) (l .stored) (l .k) (search needs)
+          (w .0 .left)) ∙ l .inv .3),
     ))
     (c .if1 .came)
 
