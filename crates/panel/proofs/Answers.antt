@@ -8,8 +8,6 @@ use Rattle.scheme.specs.declared.Shape.{Shape}
 use Rattle.scheme.specs.declared.Outcome.{Outcome}
 use Rattle.scheme.specs.declared.Outcome.the-variants.{Done, Refused}
 use Rattle.scheme.specs.Outcome.{over}
-use Rattle.scheme.specs.Refusal.{checkRefusal}
-use Rattle.scheme.proofs.Outcomes.{refused-outcome}
 use Rattle.panel.specs.declared.Panel.{Panel}
 use Rattle.panel.specs.declared.Told.{Told}
 use Rattle.panel.specs.declared.Started.{Started}

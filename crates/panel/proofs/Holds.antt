@@ -5,11 +5,11 @@ use mathlib.Core.Bool.{Bool, true, false, cond, not, _&&_, _||_, false≢true}
 use mathlib.Core.List.{List, []}
 use mathlib.Core.Logic.{⊎-elim}
 use mathlib.Core.Option.{Option, none, some}
-use Prim.Native.Nat.{ℕ, zero, suc, _+_, _-_, _^_, _<_, _≤_}
+use Prim.Native.Nat.{ℕ, suc, _-_, _^_, _<_, _≤_}
 use native.Mathlib.Omega.{arith}
 use lib.Dec.{eqb}
 use lib.ListN.{length, take}
-use lib.Seq.{getD-take, length-take-le}
+use lib.Seq.{getD-take}
 use borrow.Author.Tests.{eq-eqb, ne-eqb, not-true}
 use Rattle.algebra.proofs.Cases.{same?}
 use Rattle.linear.specs.Flat.{place}
@@ -19,10 +19,10 @@ use Rattle.scheme.specs.Refusal.{readBelow, IsScheme}
 use Rattle.scheme.proofs.Refusals.{Valid, valid, below-at, and-true, unless-zero}
 use Rattle.scheme.proofs.Tests.{within-true, within-is}
 use Rattle.panel.specs.declared.Panel.{Panel}
-use Rattle.panel.specs.Cards.{shapeOf, labelsOf, entriesOf, storedOf, rowsOf, laid, putRefusal, takeRefusal, withCard, withoutCard}
+use Rattle.panel.specs.Cards.{shapeOf, labelsOf, entriesOf, storedOf, rowsOf, putRefusal, takeRefusal, withCard, withoutCard}
 use Rattle.panel.specs.History.{Held, put, out, holding, cardAfter, goodCard, changed, isIn, setOf}
 use Rattle.panel.specs.Steps.{placesRight}
-use Rattle.panel.proofs.Refused.{Accepted, accepted, unrefused, places-are}
+use Rattle.panel.proofs.Refused.{accepted, unrefused, places-are}
 use Rattle.panel.proofs.Marks.{set-small, set-has, set-same, set-change}
 use Rattle.panel.proofs.Stored.{laid-length, laid-own, laid-other, read-by}
 

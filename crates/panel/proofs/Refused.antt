@@ -17,7 +17,7 @@ use Rattle.scheme.specs.declared.Shape.{Shape}
 use Rattle.scheme.specs.Refusal.{numbersRefusal, refusalOf, readBelow, IsScheme}
 use Rattle.scheme.specs.Sets.{inSet}
 use Rattle.scheme.specs.Tests.{within, eachBelow, unless, orElse}
-use Rattle.scheme.proofs.Refusals.{stands, orElse-zero, orElse-assoc, orElse-none, unless-zero, and-true, refusal-more, numbers, Valid, valid, valid-fits}
+use Rattle.scheme.proofs.Refusals.{stands, orElse-zero, unless-zero, and-true, refusal-more, numbers, Valid, valid, valid-fits}
 use Rattle.scheme.proofs.Tests.{within-true}
 use Rattle.panel.specs.declared.Panel.{Panel}
 use Rattle.panel.specs.Cards.{rowsOf, shapeOf, labelsOf, entriesOf, storedOf, putRefusal, takeRefusal}

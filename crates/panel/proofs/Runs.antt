@@ -12,7 +12,6 @@ use lib.Seq.{length-take-le}
 use Rattle.linear.specs.Flat.{place}
 use Rattle.linear.proofs.Flat.{list-length, list-at}
 use Rattle.scheme.specs.declared.Shape.{Shape}
-use Rattle.scheme.specs.Outcome.{over}
 use Rattle.scheme.specs.Sets.{ofSet}
 use Rattle.scheme.specs.Refusal.{checkRefusal, IsScheme}
 use Rattle.scheme.proofs.Refusals.{Valid, valid}

@@ -1,16 +1,15 @@
 -- Document 01, "The card panel": the calls on a panel's state, each as a function of the state.
 -- Assumes nothing.
-use mathlib.Core.Bool.{Bool, true, false, cond, not, _&&_, _||_}
+use mathlib.Core.Bool.{Bool, true, cond, not, _&&_, _||_}
 use mathlib.Core.List.{List, [], _∷_}
 use Prim.Native.Nat.{ℕ, zero, suc, _+_, _-_, _*_, _^_}
 use lib.Dec.{eqb, ltb}
 use lib.ListN.{length, take, replicate}
 use Rattle.scheme.specs.declared.Shape.{Shape}
-use Rattle.scheme.specs.declared.Outcome.{Outcome}
 use Rattle.scheme.specs.Outcome.{outcomeAt, over}
 use Rattle.scheme.specs.Sets.{inSet}
 use Rattle.scheme.specs.Tests.{within, eachBelow, unless, orElse}
-use Rattle.scheme.specs.Refusal.{refusalOf, setRefusal, readBelow}
+use Rattle.scheme.specs.Refusal.{refusalOf, readBelow}
 use Rattle.panel.specs.declared.Panel.{Panel}
 use Rattle.panel.specs.declared.Told.{Told}
 

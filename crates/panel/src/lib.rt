@@ -3,8 +3,7 @@ use join::Joined;
 use scheme::Outcome;
 use scheme::Shape;
 ghost use mathlib.Core.Path.{_≡_};
-ghost use mathlib.Core.Bool.{not, _&&_, _||_};
-ghost use Prim.Native.Nat.{ℕ, _<_, _≤_, _-_, _^_};
+ghost use Prim.Native.Nat.{_≤_, _-_, _^_};
 ghost use lib.ListN.{length};
 ghost use Rattle.scheme.specs.Outcome.{over};
 ghost use Rattle.panel.specs.Cards.{rowsOf, laid, blankPanel, freshPanel, putRefusal, takeRefusal, putIn, takenOut};
@@ -349,19 +348,19 @@ impl Panel {
                 panel: self,
             };
         }
-        let cards = self.cards - mark(who);
+        let left = self.cards - mark(who);
         let labels = self.labels;
         let entries = self.entries;
-        let stored = self.stored;
+        let kept = self.stored;
         let panel = Panel {
             p: self.p,
             n: self.n,
             d: self.d,
             e: self.e,
-            cards: cards,
+            cards: left,
             labels: labels,
             entries: entries,
-            stored: stored,
+            stored: kept,
         };
         Told {
             said: Outcome::Done,

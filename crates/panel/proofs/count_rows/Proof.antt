@@ -1,12 +1,11 @@
 -- `panel::count_rows` meets its contract. The loop's invariant: what is counted and the rows of the rest make the whole.
 -- Assumes nothing.
-use Prim.Native.Nat.{ℕ, _+_, _≤_, _<_, _-_}
-use mathlib.Core.Path.{_≡_, refl, sym, ap, _∙_}
-use mathlib.Core.List.{_++_}
+use Prim.Native.Nat.{_+_, _≤_, _-_}
+use mathlib.Core.Path.{_≡_}
 use mathlib.Core.Logic.{⊎-elim}
-use lib.ListN.{length, take, drop, getD, set, length-set}
-use Rattle.panel.specs.Cards.{rowsOf, laid}
-use Rattle.panel.proofs.Laying.{own-here, own-not, rows-end, lay-here, lay-not, lay-end}
+use lib.ListN.{length, drop}
+use Rattle.panel.specs.Cards.{rowsOf}
+use Rattle.panel.proofs.Laying.{own-here, own-not, rows-end}
 use native.Mathlib.Omega.{arith}
 use borrow.Author.Needs.{needs}
 use Rattle.panel.proofs.count_rows.Statement.{statement}
@@ -46,7 +45,8 @@ loop-again c =
     (c .if1 .came)
 
 returns : tie.Need-returns Inv-loop μ-loop
-returns c = omega (arith, rows-end (c .before .before .args .who) (c .before .before .args .labels .now) (c .before .loop .i) (c .loop-test .left))
+returns c =
+    omega (arith, rows-end (c .before .before .args .who) (c .before .before .args .labels .now) (c .before .loop .i) (c .loop-test .left))
 
 pub count-rows-spec : {M : Type 1} → statement M
 count-rows-spec =

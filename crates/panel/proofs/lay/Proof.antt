@@ -1,12 +1,12 @@
 -- `panel::lay` meets its contract. The loop's invariant: laying the rest of the shares at the rest of the rows gives the whole.
 -- Assumes nothing.
-use Prim.Native.Nat.{ℕ, _+_, _≤_, _<_, _-_}
-use mathlib.Core.Path.{_≡_, refl, sym, ap, _∙_}
+use Prim.Native.Nat.{_+_, _≤_, _-_}
+use mathlib.Core.Path.{_≡_, sym, _∙_}
 use mathlib.Core.List.{_++_}
 use mathlib.Core.Logic.{⊎-elim}
-use lib.ListN.{length, take, drop, getD, set, length-set}
+use lib.ListN.{length, take, drop, length-set}
 use Rattle.panel.specs.Cards.{rowsOf, laid}
-use Rattle.panel.proofs.Laying.{own-here, own-not, rows-end, lay-here, lay-not, lay-end}
+use Rattle.panel.proofs.Laying.{own-here, own-not, lay-here, lay-not, lay-end}
 use native.Mathlib.Omega.{arith}
 use borrow.Author.Needs.{needs}
 use Rattle.panel.proofs.lay.Statement.{statement}
@@ -62,14 +62,16 @@ loop-again c =
       search needs,
       rw (w .2) (simp length-set (l .inv .1)),
       omega arith,
-      rw (w .2, w .3) (sym (lay-here (a .who) (a .labels .now) (l .i) (search needs) (a .shares .now) (l .stored) (l .k) (search needs) (w .0 .taken) (omega arith)) ∙ l .inv .3),
+      rw (w .2, w .3) (sym (lay-here (a .who) (a .labels .now) (l .i) (search needs) (a .shares .now) (l .stored) (l .k) (search needs)
+          (w .0 .taken) (omega arith)) ∙ l .inv .3),
     ))
     (λ w.
     let e = own-not (a .who) (a .labels .now) (l .i) (search needs) (w .0 .left) in (
       search needs,
       rw (w .1) (l .inv .1),
       omega arith,
-      rw (w .1, w .2) (sym (lay-not (a .who) (a .labels .now) (l .i) (search needs) (a .shares .now) (l .stored) (l .k) (search needs) (w .0 .left)) ∙ l .inv .3),
+      rw (w .1, w .2) (sym (lay-not (a .who) (a .labels .now) (l .i) (search needs) (a .shares .now) (l .stored) (l .k) (search needs)
+          (w .0 .left)) ∙ l .inv .3),
     ))
     (c .if1 .came)
 

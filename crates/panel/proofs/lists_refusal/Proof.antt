@@ -25,15 +25,20 @@ set-refusal-requires c κs = valid _ _ _ _ (gone (c .before .refusal .ensures) (
 
 returns-2 : tie.Need-returns-2
 returns-2 c =
-    let a = c .before .before .before .before .before .before .before .args in
-    set-wrong (ltb (a .cards) (2 ^ a .s .n)) (a .among) (readBelow (a .s .p) (a .cards) (a .labels .now) (a .stored .now)) (a .below) 0 (c .before .set-refusal .ensures) (c .if2 .taken)
-    ∙ call-more (a .s) (a .labels .now) (a .entries .now) (a .fits) (a .fits) _ _ refl (c .before .before .before .refusal .ensures) (c .before .before .if1 .left)
+    let t = c .before .before in
+    let a = t .before .before .before .before .before .args in
+    set-wrong (ltb (a .cards) (2 ^ a .s .n)) (a .among) (readBelow (a .s .p) (a .cards) (a .labels .now) (a .stored .now)) (a .below) 0
+    (c .before .set-refusal .ensures) (c .if2 .taken)
+    ∙ call-more (a .s) (a .labels .now) (a .entries .now) (a .fits) (a .fits) _ _ refl (t .before .refusal .ensures) (t .if1 .left)
 
 returns-3 : tie.Need-returns-3
 returns-3 c =
-    let a = c .before .before .before .before .before .before .before .before .args in
-    who-wrong (ltb (a .cards) (2 ^ a .s .n)) (a .among) (readBelow (a .s .p) (a .cards) (a .labels .now) (a .stored .now)) (a .below) 0 (set-within (ltb (a .cards) (2 ^ a .s .n)) (c .before .before .set-refusal .ensures) (c .before .if2 .left)) (not-true _ (c .if3 .taken))
-    ∙ call-more (a .s) (a .labels .now) (a .entries .now) (a .fits) (a .fits) _ _ refl (c .before .before .before .before .refusal .ensures) (c .before .before .before .if1 .left)
+    let t = c .before .before .before in
+    let a = t .before .before .before .before .before .args in
+    who-wrong (ltb (a .cards) (2 ^ a .s .n)) (a .among) (readBelow (a .s .p) (a .cards) (a .labels .now) (a .stored .now)) (a .below) 0
+    (set-within (ltb (a .cards) (2 ^ a .s .n)) (c .before .before .set-refusal .ensures) (c .before .if2 .left))
+    (not-true _ (c .if3 .taken))
+    ∙ call-more (a .s) (a .labels .now) (a .entries .now) (a .fits) (a .fits) _ _ refl (t .before .refusal .ensures) (t .if1 .left)
 
 read-below-requires : tie.Need-read-below-requires
 read-below-requires c κs =
@@ -45,23 +50,35 @@ read-below-requires c κs =
 
 returns-4 : tie.Need-returns-4
 returns-4 c =
-    let a = c .before .before .before .before .before .before .before .before .before .before .args in
-    read-wrong (ltb (a .cards) (2 ^ a .s .n)) (a .among) (readBelow (a .s .p) (a .cards) (a .labels .now) (a .stored .now)) (a .below) 0 (set-within (ltb (a .cards) (2 ^ a .s .n)) (c .before .before .before .before .set-refusal .ensures) (c .before .before .before .if2 .left)) (not-false _ (c .before .before .if3 .left)) (sym (c .before .read-below .ensures) ∙ not-true _ (c .if4 .taken))
-    ∙ call-more (a .s) (a .labels .now) (a .entries .now) (a .fits) (a .fits) _ _ refl (c .before .before .before .before .before .before .refusal .ensures) (c .before .before .before .before .before .if1 .left)
+    let t = c .before .before .before .before .before in
+    let a = t .before .before .before .before .before .args in
+    read-wrong (ltb (a .cards) (2 ^ a .s .n)) (a .among) (readBelow (a .s .p) (a .cards) (a .labels .now) (a .stored .now)) (a .below) 0
+    (set-within (ltb (a .cards) (2 ^ a .s .n)) (c .before .before .before .before .set-refusal .ensures)
+    (c .before .before .before .if2 .left)) (not-false _ (c .before .before .if3 .left))
+    (sym (c .before .read-below .ensures) ∙ not-true _ (c .if4 .taken))
+    ∙ call-more (a .s) (a .labels .now) (a .entries .now) (a .fits) (a .fits) _ _ refl (t .before .refusal .ensures) (t .if1 .left)
 
 returns-5 : tie.Need-returns-5
 returns-5 c =
-    let a = c .before .before .before .before .before .before .before .before .before .before .before .args in
-    own-wrong (ltb (a .cards) (2 ^ a .s .n)) (a .among) (readBelow (a .s .p) (a .cards) (a .labels .now) (a .stored .now)) (a .below) 0 (set-within (ltb (a .cards) (2 ^ a .s .n)) (c .before .before .before .before .before .set-refusal .ensures) (c .before .before .before .before .if2 .left)) (not-false _ (c .before .before .before .if3 .left)) (sym (c .before .before .read-below .ensures) ∙ not-false _ (c .before .if4 .left))
+    let t = c .before .before .before .before .before .before in
+    let a = t .before .before .before .before .before .args in
+    own-wrong (ltb (a .cards) (2 ^ a .s .n)) (a .among) (readBelow (a .s .p) (a .cards) (a .labels .now) (a .stored .now)) (a .below) 0
+    (set-within (ltb (a .cards) (2 ^ a .s .n)) (c .before .before .before .before .before .set-refusal .ensures)
+    (c .before .before .before .before .if2 .left)) (not-false _ (c .before .before .before .if3 .left))
+    (sym (c .before .before .read-below .ensures) ∙ not-false _ (c .before .if4 .left))
     (not-true _ (c .if5 .taken))
-    ∙ call-more (a .s) (a .labels .now) (a .entries .now) (a .fits) (a .fits) _ _ refl (c .before .before .before .before .before .before .before .refusal .ensures) (c .before .before .before .before .before .before .if1 .left)
+    ∙ call-more (a .s) (a .labels .now) (a .entries .now) (a .fits) (a .fits) _ _ refl (t .before .refusal .ensures) (t .if1 .left)
 
 returns-6 : tie.Need-returns-6
 returns-6 c =
-    let a = c .before .before .before .before .before .before .before .before .before .before .before .args in
-    none-wrong (ltb (a .cards) (2 ^ a .s .n)) (a .among) (readBelow (a .s .p) (a .cards) (a .labels .now) (a .stored .now)) (a .below) 0 (set-within (ltb (a .cards) (2 ^ a .s .n)) (c .before .before .before .before .before .set-refusal .ensures) (c .before .before .before .before .if2 .left)) (not-false _ (c .before .before .before .if3 .left)) (sym (c .before .before .read-below .ensures) ∙ not-false _ (c .before .if4 .left))
+    let t = c .before .before .before .before .before .before in
+    let a = t .before .before .before .before .before .args in
+    none-wrong (ltb (a .cards) (2 ^ a .s .n)) (a .among) (readBelow (a .s .p) (a .cards) (a .labels .now) (a .stored .now)) (a .below) 0
+    (set-within (ltb (a .cards) (2 ^ a .s .n)) (c .before .before .before .before .before .set-refusal .ensures)
+    (c .before .before .before .before .if2 .left)) (not-false _ (c .before .before .before .if3 .left))
+    (sym (c .before .before .read-below .ensures) ∙ not-false _ (c .before .if4 .left))
     (not-false _ (c .if5 .left))
-    ∙ call-more (a .s) (a .labels .now) (a .entries .now) (a .fits) (a .fits) _ _ refl (c .before .before .before .before .before .before .before .refusal .ensures) (c .before .before .before .before .before .before .if1 .left)
+    ∙ call-more (a .s) (a .labels .now) (a .entries .now) (a .fits) (a .fits) _ _ refl (t .before .refusal .ensures) (t .if1 .left)
 
 pub lists-refusal-spec : {M : Type 1} → statement M
 lists-refusal-spec =

@@ -1,10 +1,6 @@
 -- `panel::places_right` meets its contract.
 -- Assumes nothing.
 use borrow.Author.Needs.{needs}
-use native.Mathlib.Omega.{arith}
-use mathlib.Core.Path.{sym, ap, ap₂, _∙_}
-use mathlib.Core.Bool.{not, _||_}
-use lib.Dec.{eqb}
 use Rattle.scheme.proofs.Tests.{failed, passed}
 use Rattle.panel.proofs.places_right.Statement.{statement}
 use Rattle.panel.proofs.places_right.Tie as tie

@@ -1,7 +1,6 @@
 -- `panel::put_lists_refusal` meets its contract: at each return what comes before it refuses nothing (proofs/Refused.antt).
 -- Assumes nothing.
 use borrow.Author.Needs.{needs}
-use native.Mathlib.Omega.{arith}
 use mathlib.Core.Path.{sym, ap, _∙_}
 use mathlib.Core.Bool.{not}
 use Rattle.scheme.specs.Tests.{unless}
@@ -27,24 +26,35 @@ lists-refusal-requires c κs = c .before .before .before .before .before .before
 returns : tie.Need-returns
 returns c =
     let a = c .before .before .before .before .before .before .before .before .before .before .args in
-    lists-stand (a .s) (a .labels .now) (a .entries .now) (a .cards) (a .stored .now) _ _ _ _ _ _ (c .before .before .before .places-right .ensures) (c .before .before .before .before .between .ensures) (c .before .before .all-below .ensures) _ (c .before .lists-refusal .ensures) _ (c .if1 .taken)
+    lists-stand (a .s) (a .labels .now) (a .entries .now) (a .cards) (a .stored .now) _ _ _ _ _ _
+    (c .before .before .before .places-right .ensures) (c .before .before .before .before .between .ensures)
+    (c .before .before .all-below .ensures) _ (c .before .lists-refusal .ensures) _ (c .if1 .taken)
 
 in-set-requires : tie.Need-in-set-requires
 in-set-requires c κs =
     let a = c .before .before .before .before .before .before .before .before .before .before .args in
-    who-inside (a .s) (a .labels .now) (a .entries .now) (a .cards) (a .stored .now) _ (a .who) _ _ (lists-none (a .s) (a .labels .now) (a .entries .now) (a .cards) (a .stored .now) _ _ _ _ _ _ (c .before .before .before .places-right .ensures) (c .before .before .before .before .between .ensures) (c .before .before .all-below .ensures) _ (c .before .lists-refusal .ensures) (c .if1 .left))
+    who-inside (a .s) (a .labels .now) (a .entries .now) (a .cards) (a .stored .now) _ (a .who) _ _
+    (lists-none (a .s) (a .labels .now) (a .entries .now) (a .cards) (a .stored .now) _ _ _ _ _ _
+    (c .before .before .before .places-right .ensures) (c .before .before .before .before .between .ensures)
+    (c .before .before .all-below .ensures) _ (c .before .lists-refusal .ensures) (c .if1 .left))
 
 returns-2 : tie.Need-returns-2
 returns-2 c =
-    let a = c .before .before .before .before .before .before .before .before .before .before .before .before .args in
+    let t = c .before .before in
+    let a = t .before .before .before .before .before .before .before .before .before .before .args in
     ap (λ b. unless (not b) 21) (sym (c .if2 .taken) ∙ c .before .in-set .ensures)
-    ∙ lists-on (a .s) (a .labels .now) (a .entries .now) (a .cards) (a .stored .now) _ _ _ _ _ _ (c .before .before .before .before .before .places-right .ensures) (c .before .before .before .before .before .before .between .ensures) (c .before .before .before .before .all-below .ensures) _ (c .before .before .before .lists-refusal .ensures) _ (c .before .before .if1 .left)
+    ∙ lists-on (a .s) (a .labels .now) (a .entries .now) (a .cards) (a .stored .now) _ _ _ _ _ _
+    (t .before .before .before .places-right .ensures) (t .before .before .before .before .between .ensures)
+    (t .before .before .all-below .ensures) _ (t .before .lists-refusal .ensures) _ (t .if1 .left)
 
 returns-3 : tie.Need-returns-3
 returns-3 c =
-    let a = c .before .before .before .before .before .before .before .before .before .before .before .before .args in
+    let t = c .before .before in
+    let a = t .before .before .before .before .before .before .before .before .before .before .args in
     ap (λ b. unless (not b) 21) (sym (c .if2 .left) ∙ c .before .in-set .ensures)
-    ∙ lists-on (a .s) (a .labels .now) (a .entries .now) (a .cards) (a .stored .now) _ _ _ _ _ _ (c .before .before .before .before .before .places-right .ensures) (c .before .before .before .before .before .before .between .ensures) (c .before .before .before .before .all-below .ensures) _ (c .before .before .before .lists-refusal .ensures) _ (c .before .before .if1 .left)
+    ∙ lists-on (a .s) (a .labels .now) (a .entries .now) (a .cards) (a .stored .now) _ _ _ _ _ _
+    (t .before .before .before .places-right .ensures) (t .before .before .before .before .between .ensures)
+    (t .before .before .all-below .ensures) _ (t .before .lists-refusal .ensures) _ (t .if1 .left)
 
 pub put-lists-refusal-spec : {M : Type 1} → statement M
 put-lists-refusal-spec =

@@ -1,6 +1,5 @@
 -- `panel::take_lists_refusal` meets its contract: at each return what comes before it refuses nothing (proofs/Refused.antt).
 -- Assumes nothing.
-use native.Mathlib.Omega.{arith}
 use borrow.Author.Needs.{needs}
 use mathlib.Core.Path.{refl, sym, ap, _∙_}
 use borrow.Author.Tests.{not-true, not-false}
@@ -21,24 +20,31 @@ lists-refusal-requires c κs = c .before .before .before .before .before .pre
 returns : tie.Need-returns
 returns c =
     let a = c .before .before .before .before .before .before .before .args in
-    lists-stand (a .s) (a .labels .now) (a .entries .now) (a .cards) (a .stored .now) _ _ _ _ _ _ refl (c .before .before .between .ensures) refl _ (c .before .lists-refusal .ensures) _ (c .if1 .taken)
+    lists-stand (a .s) (a .labels .now) (a .entries .now) (a .cards) (a .stored .now) _ _ _ _ _ _ refl
+    (c .before .before .between .ensures) refl _ (c .before .lists-refusal .ensures) _ (c .if1 .taken)
 
 in-set-requires : tie.Need-in-set-requires
 in-set-requires c κs =
     let a = c .before .before .before .before .before .before .before .args in
-    who-inside (a .s) (a .labels .now) (a .entries .now) (a .cards) (a .stored .now) _ (a .who) _ _ (lists-none (a .s) (a .labels .now) (a .entries .now) (a .cards) (a .stored .now) _ _ _ _ _ _ refl (c .before .before .between .ensures) refl _ (c .before .lists-refusal .ensures) (c .if1 .left))
+    who-inside (a .s) (a .labels .now) (a .entries .now) (a .cards) (a .stored .now) _ (a .who) _ _
+    (lists-none (a .s) (a .labels .now) (a .entries .now) (a .cards) (a .stored .now) _ _ _ _ _ _ refl
+    (c .before .before .between .ensures) refl _ (c .before .lists-refusal .ensures) (c .if1 .left))
 
 returns-2 : tie.Need-returns-2
 returns-2 c =
-    let a = c .before .before .before .before .before .before .before .before .before .args in
+    let t = c .before .before in
+    let a = t .before .before .before .before .before .before .before .args in
     ap (λ b. unless b 22) (sym (not-true _ (c .if2 .taken)) ∙ c .before .in-set .ensures)
-    ∙ lists-on (a .s) (a .labels .now) (a .entries .now) (a .cards) (a .stored .now) _ _ _ _ _ _ refl (c .before .before .before .before .between .ensures) refl _ (c .before .before .before .lists-refusal .ensures) _ (c .before .before .if1 .left)
+    ∙ lists-on (a .s) (a .labels .now) (a .entries .now) (a .cards) (a .stored .now) _ _ _ _ _ _ refl
+    (t .before .before .between .ensures) refl _ (t .before .lists-refusal .ensures) _ (t .if1 .left)
 
 returns-3 : tie.Need-returns-3
 returns-3 c =
-    let a = c .before .before .before .before .before .before .before .before .before .args in
+    let t = c .before .before in
+    let a = t .before .before .before .before .before .before .before .args in
     ap (λ b. unless b 22) (sym (not-false _ (c .if2 .left)) ∙ c .before .in-set .ensures)
-    ∙ lists-on (a .s) (a .labels .now) (a .entries .now) (a .cards) (a .stored .now) _ _ _ _ _ _ refl (c .before .before .before .before .between .ensures) refl _ (c .before .before .before .lists-refusal .ensures) _ (c .before .before .if1 .left)
+    ∙ lists-on (a .s) (a .labels .now) (a .entries .now) (a .cards) (a .stored .now) _ _ _ _ _ _ refl
+    (t .before .before .between .ensures) refl _ (t .before .lists-refusal .ensures) _ (t .if1 .left)
 
 pub take-lists-refusal-spec : {M : Type 1} → statement M
 take-lists-refusal-spec =

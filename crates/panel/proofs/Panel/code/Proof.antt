@@ -6,7 +6,6 @@ use mathlib.Core.Path.{_≡_, refl, sym, _∙_}
 use Prim.Native.Nat.{ℕ}
 use native.Mathlib.Nat.{sub-zero}
 use lib.ListN.{length, length-map}
-use Rattle.tables.proofs.Parts.{part-length}
 use Rattle.scheme.proofs.Refusals.{gone, rows-few}
 use Rattle.join.proofs.Says.{refused-early}
 use Rattle.panel.proofs.Refused.{numbers-stand, rows-at-most}
@@ -42,7 +41,9 @@ part-join-start : tie.Need-part-join-start
 part-join-start c = search needs
 
 part-join-end : tie.Need-part-join-end
-part-join-end c = omega (arith, labels-length (c .before .before .before .before .before .before), rows-at-most _ (gone (c .before .before .before .before .before .numbers-refusal .ensures) (c .before .before .before .before .if1 .left)))
+part-join-end c =
+    let t = c .before .before .before .before in
+    omega (arith, labels-length (t .before .before), rows-at-most _ (gone (t .before .numbers-refusal .ensures) (t .if1 .left)))
 
 sub-join-2 : tie.Need-sub-join-2
 sub-join-2 c = search needs
@@ -51,7 +52,9 @@ part-join-start-2 : tie.Need-part-join-start-2
 part-join-start-2 c = search needs
 
 part-join-end-2 : tie.Need-part-join-end-2
-part-join-end-2 c = omega (arith, entries-length (c .before .before .before .before .before .before .before .before), rows-few _ (gone (c .before .before .before .before .before .before .before .numbers-refusal .ensures) (c .before .before .before .before .before .before .if1 .left)))
+part-join-end-2 c =
+    let t = c .before .before .before .before .before .before in
+    omega (arith, entries-length (t .before .before), rows-few _ (gone (t .before .numbers-refusal .ensures) (t .if1 .left)))
 
 sub-join-3 : tie.Need-sub-join-3
 sub-join-3 c = search needs
@@ -60,7 +63,9 @@ part-join-start-3 : tie.Need-part-join-start-3
 part-join-start-3 c = search needs
 
 part-join-end-3 : tie.Need-part-join-end-3
-part-join-end-3 c = omega (arith, stored-length (c .before .before .before .before .before .before .before .before .before .before), rows-at-most _ (gone (c .before .before .before .before .before .before .before .before .before .numbers-refusal .ensures) (c .before .before .before .before .before .before .before .before .if1 .left)))
+part-join-end-3 c =
+    let t = c .before .before .before .before .before .before .before .before in
+    omega (arith, stored-length (t .before .before), rows-at-most _ (gone (t .before .numbers-refusal .ensures) (t .if1 .left)))
 
 join-requires : tie.Need-join-requires
 join-requires c κs = search needs

@@ -5,7 +5,7 @@ use native.Mathlib.Omega.{arith}
 use mathlib.Core.Path.{_≡_, sym, _∙_}
 use Prim.Native.Nat.{ℕ}
 use native.Mathlib.Nat.{sub-zero}
-use lib.ListN.{length, length-map, length-take}
+use lib.ListN.{length, length-map}
 use Rattle.scheme.proofs.Refusals.{gone}
 use Rattle.tables.proofs.Parts.{part-length}
 use Rattle.panel.proofs.Refused.{put-accepted}
@@ -34,30 +34,41 @@ part-lay-start c = search needs
 
 part-lay-end : tie.Need-part-lay-end
 part-lay-end c =
-    let h = put-accepted (c .before .before .before .before .before .before .before .args .self) (c .before .before .before .before .before .before .before .args .who) (c .before .before .before .before .before .before .before .args .shares .now) (gone (c .before .before .before .before .before .put-refusal .ensures) (c .before .before .before .before .if1 .left)) in
-    omega (arith, labels-length (c .before .before .before .before .before .before .before), h .rows)
+    let t = c .before .before .before .before in
+    let a = t .before .before .before .args in
+    let h = put-accepted (a .self) (a .who) (a .shares .now) (gone (t .before .put-refusal .ensures) (t .if1 .left)) in
+    omega (arith, labels-length (t .before .before .before), h .rows)
 
 slice-aggregate-lay : tie.Need-slice-aggregate-lay
 slice-aggregate-lay c = search needs
 
 lay-requires : tie.Need-lay-requires
 lay-requires c κs =
-    let h = put-accepted (c .before .before .before .before .before .before .before .before .before .args .self) (c .before .before .before .before .before .before .before .before .before .args .who) (c .before .before .before .before .before .before .before .before .before .args .shares .now) (gone (c .before .before .before .before .before .before .before .put-refusal .ensures) (c .before .before .before .before .before .before .if1 .left)) in
-    (omega (arith, part-length _ 32 (c .before .before .before .before .before .before .before .before .before .args .self .labels) (labels-length (c .before .before .before .before .before .before .before .before .before)) (h .rows), h .rows, stored-length (c .before .before .before .before .before .before .before .before .before)), simp sub-zero (h .places))
+    let t = c .before .before .before .before .before .before in
+    let a = t .before .before .before .args in
+    let h = put-accepted (a .self) (a .who) (a .shares .now) (gone (t .before .put-refusal .ensures) (t .if1 .left)) in
+    let labels = part-length _ 32 (a .self .labels) (labels-length (t .before .before .before)) (h .rows) in
+    (omega (arith, labels, h .rows, stored-length (t .before .before .before)), simp sub-zero (h .places))
 
 mark-requires : tie.Need-mark-requires
 mark-requires c κs =
-    let h = put-accepted (c .before .before .before .before .before .before .before .before .before .before .before .args .self) (c .before .before .before .before .before .before .before .before .before .before .before .args .who) (c .before .before .before .before .before .before .before .before .before .before .before .args .shares .now) (gone (c .before .before .before .before .before .before .before .before .before .put-refusal .ensures) (c .before .before .before .before .before .before .before .before .if1 .left)) in
+    let t = c .before .before .before .before .before .before .before .before in
+    let a = t .before .before .before .args in
+    let h = put-accepted (a .self) (a .who) (a .shares .now) (gone (t .before .put-refusal .ensures) (t .if1 .left)) in
     (h .low, h .high)
 
 add-cards : tie.Need-add-cards
 add-cards c =
-    let h = put-accepted (c .before .before .before .before .before .before .before .before .before .before .before .before .before .args .self) (c .before .before .before .before .before .before .before .before .before .before .before .before .before .args .who) (c .before .before .before .before .before .before .before .before .before .before .before .before .before .args .shares .now) (gone (c .before .before .before .before .before .before .before .before .before .before .before .put-refusal .ensures) (c .before .before .before .before .before .before .before .before .before .before .if1 .left)) in
+    let t = c .before .before .before .before .before .before .before .before .before .before in
+    let a = t .before .before .before .args in
+    let h = put-accepted (a .self) (a .who) (a .shares .now) (gone (t .before .put-refusal .ensures) (t .if1 .left)) in
     omega (arith, h .fits, c .before .mark .ensures)
 
 returns-2 : tie.Need-returns-2
 returns-2 c =
-    put-done (c .before .before .before .before .before .before .before .before .before .before .before .before .before .args .self) (c .before .before .before .before .before .before .before .before .before .before .before .before .before .args .who) (c .before .before .before .before .before .before .before .before .before .before .before .before .before .args .shares .now) _ _ (gone (c .before .before .before .before .before .before .before .before .before .before .before .put-refusal .ensures) (c .before .before .before .before .before .before .before .before .before .before .if1 .left))
+    let t = c .before .before .before .before .before .before .before .before .before .before in
+    let a = t .before .before .before .args in
+    put-done (a .self) (a .who) (a .shares .now) _ _ (gone (t .before .put-refusal .ensures) (t .if1 .left))
     (c .before .mark .ensures) (simp sub-zero at (c .before .before .before .lay .ensures))
 
 pub put-spec : {M : Type 1} → statement M

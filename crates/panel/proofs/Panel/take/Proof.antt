@@ -16,16 +16,22 @@ returns c = told-refused _ _ _ _ (c .before .take-refusal .ensures) (c .if1 .tak
 
 mark-requires : tie.Need-mark-requires
 mark-requires c κs =
-    let h = take-accepted (c .before .before .args .self) (c .before .before .args .who) (gone (c .before .take-refusal .ensures) (c .if1 .left)) in
+    let h = take-accepted (c .before .before .args .self) (c .before .before .args .who)
+    (gone (c .before .take-refusal .ensures) (c .if1 .left)) in
     (h .low, h .high)
 
-sub-cards : tie.Need-sub-cards
-sub-cards c =
-    let h = take-accepted (c .before .before .before .before .args .self) (c .before .before .before .before .args .who) (gone (c .before .before .before .take-refusal .ensures) (c .before .before .if1 .left)) in
+sub-left : tie.Need-sub-left
+sub-left c =
+    let t = c .before .before in
+    let h = take-accepted (t .before .before .args .self) (t .before .before .args .who)
+    (gone (t .before .take-refusal .ensures) (t .if1 .left)) in
     omega (arith, h .fits, c .before .mark .ensures)
 
 returns-2 : tie.Need-returns-2
-returns-2 c = take-done (c .before .before .before .before .before .before .before .args .self) (c .before .before .before .before .before .before .before .args .who) _ (gone (c .before .before .before .before .before .before .take-refusal .ensures) (c .before .before .before .before .before .if1 .left)) (c .before .before .before .before .mark .ensures)
+returns-2 c =
+    let t = c .before .before .before .before .before in
+    take-done (t .before .before .args .self) (t .before .before .args .who) _ (gone (t .before .take-refusal .ensures) (t .if1 .left))
+    (c .before .before .before .before .mark .ensures)
 
 pub take-spec : {M : Type 1} → statement M
-take-spec = tie.close (tie.spec take-refusal-requires returns mark-requires sub-cards returns-2)
+take-spec = tie.close (tie.spec take-refusal-requires returns mark-requires sub-left returns-2)
