@@ -23,7 +23,7 @@ const BYTE_MARK: u8 = 241;
 pub fn marked_bytes() -> [u8; 2048]
     ensures { λ r. ⌜ 2048 ≡ length r ⌝ }
 {
-    [241; 2048]
+    [BYTE_MARK; 2048]
 }
 
 pub fn text(bytes: &[u8]) {
@@ -108,7 +108,7 @@ pub fn filled_bytes(xs: &[u8]) {
     bytes(xs, BYTE_MARK as u32);
 }
 
-// A list of bytes that a call had to leave: where the mark stands, the mark of every other list is written.
+// A list of bytes that a call had to leave as it was: a byte that is still the mark is written as the mark of the other lists.
 pub fn left_bytes(xs: &[u8]) {
     bytes(xs, MARK);
 }

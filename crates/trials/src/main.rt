@@ -17,7 +17,9 @@
 // The crate answers has the first six, answers_made the others. The file stdin has document 01's examples, refused calls of every kind, and
 // then requests of these calls from
 //   python3 FOLDER/requests.py 7 3000 base | python3 FOLDER/trials.py --from-json
-// where FOLDER has the second program; the lines of rule stand after those of the six. The file stdout is what that program answers:
+// where FOLDER has the second program; the lines of rule stand after those of the six. Then come lines of write and read, for files that the
+// second program writes and for such files changed: each refusal, pairs of faults that show their order, wrong lengths, and one byte changed
+// at every 16th place of example L's file, with the old check and with the check made right. The file stdout is what that program answers:
 //   python3 FOLDER/trials.py < crates/trials/stdin
 use requests::Read;
 
