@@ -1,5 +1,5 @@
 -- Document 01, "The card panel": asked for the code after any run of calls, the panel answers as joining does for the cards now in it, with
--- the shares that were put in last.
+-- the shares of the last put that was not refused.
 -- Assumes nothing.
 use mathlib.Core.Path.{_≡_, refl, sym, ap, ap₂, subst, _∙_}
 use mathlib.Core.Bool.{true, false≢true}
@@ -22,15 +22,10 @@ use Rattle.panel.specs.declared.Panel.{Panel}
 use Rattle.panel.specs.declared.Coded.{Coded}
 use Rattle.panel.specs.Cards.{shapeOf, labelsOf, entriesOf, storedOf, rowsOf, putRefusal, takeRefusal, withCard, withoutCard, toldAt, putIn, takenOut, freshPanel}
 use Rattle.panel.specs.Says.{CodeSays}
-use Rattle.panel.specs.History.{Call, put, out, Held, noCards, changed, heldAfter, isIn, setOf, shareFrom, sharesOf}
+use Rattle.panel.specs.Ran.{ran}
+use Rattle.panel.specs.History.{Call, put, out, ask, Held, noCards, changed, heldAfter, isIn, setOf, shareFrom, sharesOf}
 use Rattle.panel.proofs.Marks.{set-none}
 use Rattle.panel.proofs.Holds.{Holds, row-share, put-refused, put-taken, out-refused, out-taken}
-
--- The panel after a run of calls, the first call first: each call is made on the panel that the one before it handed back.
-unfoldable pub ran : Panel → List Call → Panel
-ran a [] = a
-ran a (put who shares ∷ calls) = ran (putIn a who shares .panel) calls
-ran a (out who ∷ calls) = ran (takenOut a who .panel) calls
 
 -- What joining these cards answers, for the panel's scheme.
 abbrev Answers : Panel → Held → Coded → Type 0
@@ -71,6 +66,7 @@ run-from (out who ∷ calls) a held sound h told said = go (takeRefusal a who) r
         → Answers a (heldAfter (shapeOf a) (labelsOf a) (changed (shapeOf a) (labelsOf a) held (out who)) calls) told
     go zero z said rest = rest (withoutCard a who) _ sound (out-taken a held sound h who z) told said
     go (suc k) z said rest = rest a _ sound (out-refused a held sound h who k z) told said
+run-from (ask ∷ calls) a held sound h told said = run-from calls a held sound h told said
 
 none-some : (x : List ℕ) → none ≡ some x → ⊥
 none-some x e = false≢true (ap isIn e)

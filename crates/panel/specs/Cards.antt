@@ -33,11 +33,12 @@ rowsOf who [] = 0
 rowsOf who (label ∷ labels) = cond (eqb label who) 1 0 + rowsOf who labels
 
 -- "A panel state handed in is checked like any other input, by refusals 1 to 9; what it stores for a participant whose card is out is not
--- read." `lengths` and `below` are the call's own lists; `who` is whether the participant that the call gives is from 1 to n.
+-- read." lengths: the call's own lists have their lengths; among: its participant is from 1 to n; below: its own shares are below p;
+-- more: what it refuses after 9.
 abbrev pub stateRefusal : Panel → Bool → Bool → Bool → ℕ → ℕ
-stateRefusal a lengths who below more =
+stateRefusal a lengths among below more =
     refusalOf (shapeOf a) (labelsOf a) (entriesOf a) lengths
-    (orElse (unless (ltb (a .cards) (2 ^ a .n) && who) 8)
+    (orElse (unless (ltb (a .cards) (2 ^ a .n) && among) 8)
     (orElse (unless (readBelow (a .p) (a .cards) (labelsOf a) (storedOf a) && below) 9)
     more))
 
@@ -63,7 +64,7 @@ abbrev pub toldAt : ℕ → Panel → Panel → Told
 toldAt zero old new = record { said = outcomeAt 0; panel = new }
 toldAt (suc k) old new = record { said = outcomeAt (suc k); panel = old }
 
--- "Putting in stores that participant's shares and marks the card".
+-- "Putting in stores that participant's shares and marks the card". Meant where the card is out: 21 has been tried.
 abbrev pub withCard : Panel → ℕ → List ℕ → Panel
 withCard a who shares = record {
   p = a .p;
@@ -79,7 +80,7 @@ withCard a who shares = record {
 abbrev pub putIn : Panel → ℕ → List ℕ → Told
 putIn a who shares = toldAt (putRefusal a who shares) a (withCard a who shares)
 
--- "taking out only removes the mark".
+-- "taking out only removes the mark". Meant where the card is in: 22 has been tried.
 abbrev pub withoutCard : Panel → ℕ → Panel
 withoutCard a who = record {
   p = a .p;

@@ -11,10 +11,11 @@ use Rattle.scheme.specs.declared.Shape.{Shape}
 use Rattle.scheme.specs.Tests.{within, eachBelow}
 use Rattle.panel.specs.Cards.{rowsOf}
 
--- A card is put in with a participant and that participant's shares, or taken out.
+-- A card is put in with a participant and that participant's shares, or taken out; or the panel is asked for the code.
 pub data Call : Type 0 where
   put : ℕ → List ℕ → Call
   out : ℕ → Call
+  ask : Call
 
 -- The shares that a participant's card, if it is in, was put in with.
 abbrev pub Held : Type 0
@@ -41,6 +42,7 @@ module _ (s : Shape) (labels : List ℕ) where
   abbrev pub changed : Held → Call → Held
   changed held (put who shares) = holding held who (cardAfter (held who) (goodCard who shares) shares)
   changed held (out who) = holding held who none
+  changed held ask = held
 
   -- The cards after a run of calls, the first call first.
   unfoldable pub heldAfter : Held → List Call → Held

@@ -12,7 +12,7 @@ use Rattle.panel.specs.declared.Started.{Started}
 use Rattle.panel.specs.declared.Coded.{Coded}
 use Rattle.panel.specs.Cards.{shapeOf, labelsOf, entriesOf, storedOf, blankPanel, freshPanel}
 
--- A fresh panel; refusals 1 to 7, and no panel beside them.
+-- A fresh panel; or refusals 1 to 7, with a panel of zeros beside them, which every call refuses.
 abbrev pub startedAt : ℕ → Panel → Started
 startedAt zero new = record { said = outcomeAt 0; panel = new }
 startedAt (suc k) new = record { said = outcomeAt (suc k); panel = blankPanel }

@@ -368,8 +368,8 @@ impl Panel {
         }
     }
 
-    // The code of the cards that are in. Wrong answers that the contract rules out: a share read whose card is out; a code from a set that is
-    // closed.
+    // The code of the cards that are in. Wrong answers that the contract rules out: an answer that hangs on a share whose card is out; a code
+    // from a set that is closed.
     pub fn code(self) -> Coded
         ensures { λ r. ⌜ CodeSays self r ⌝ }
     {
