@@ -13,9 +13,17 @@
 //   rule       p, n, text (a list of bytes), length of the list for the labels, length of the list for the entries
 //   write      scheme, length of the list for the file
 //   read       file (a list of bytes), length of the list for the labels, length of the list for the entries
+//   panel_new  scheme
+//   panel_put  scheme, cards (a set), stored shares, participant, shares
+//   panel_take scheme, cards, stored shares, participant
+//   panel_code scheme, cards, stored shares
 //
-// The crate answers has the first six, answers_made the others. The file stdin has document 01's examples, refused calls of every kind, and
-// then requests of these calls from
+// A panel has places of its own for 32 labels, 384 entries and 32 stored shares: the numbers given fill the first of them, 61681 stands in
+// the others, and a longer list is no request. After panel_new, panel_put and panel_take the line has the cards and, after ` | `, the stored
+// shares of the scheme's rows; a refused call of them has the refusal alone.
+//
+// The crate answers has the first six, answers_made the next three, answers_panel the last four. The file stdin has document 01's examples,
+// refused calls of every kind, and then requests of the first seven calls from
 //   python3 FOLDER/requests.py 7 3000 base | python3 FOLDER/trials.py --from-json
 // where FOLDER has the second program; the lines of rule stand after those of the six. Then come lines of write and read, for files that the
 // second program writes and for such files changed: each refusal, pairs of faults that show their order, wrong lengths, and one byte changed
@@ -53,6 +61,18 @@ fn request(name: &[u8], xs: &[u32]) -> bool {
     }
     if check::same(name, b"read") {
         return answers_made::read_line(xs);
+    }
+    if check::same(name, b"panel_new") {
+        return answers_panel::new_line(xs);
+    }
+    if check::same(name, b"panel_put") {
+        return answers_panel::put_line(xs);
+    }
+    if check::same(name, b"panel_take") {
+        return answers_panel::take_line(xs);
+    }
+    if check::same(name, b"panel_code") {
+        return answers_panel::code_line(xs);
     }
     false
 }
