@@ -1,7 +1,7 @@
 // Request lines answered: standard input has a request a line, a call's name and its numbers. For each this writes a line: the name, the
 // answer, and after ` | ` the numbers of each list lent for results, 61681 where the call left a place as it was. A line that is no request
 // (an unknown name, numbers missing or left over, a number that is no decimal below 2^32, a byte above 255, a result list, a text or a file of
-// more than 2,048 places, more than 16,384 numbers or 131,072 bytes) is answered by `?`.
+// more than 2,048 places, more than 16,384 numbers or 131,072 bytes) is answered by `? no request`.
 //
 // The numbers of a call; a list is its length and then its numbers, a scheme is p, n, d, e, the labels and the entries:
 //   check      scheme
@@ -24,11 +24,14 @@
 //
 // The crate answers has the first six, answers_made the next three, answers_panel the last four. The file stdin has document 01's examples,
 // refused calls of every kind, and then requests of the first seven calls from
-//   python3 FOLDER/requests.py 7 3000 base | python3 FOLDER/trials.py --from-json
-// where FOLDER has the second program; the lines of rule stand after those of the six. Then come lines of write and read, for files that the
-// second program writes and for such files changed: each refusal, pairs of faults that show their order, wrong lengths, and one byte changed
-// at every 16th place of example L's file, with the old check and with the check made right. The file stdout is what that program answers:
-//   python3 FOLDER/trials.py < crates/trials/stdin
+//   python3 second/requests.py 7 3000 base | python3 second/trials.py --from-json
+// the lines of rule after those of the six. Then come lines of write and read, for files that the second program writes and for such files
+// changed: each refusal, pairs of faults that show their order, wrong lengths, and one byte changed at every 16th place of example L's file,
+// with the old check and with the check made right. Then come the lines of
+//   python3 tools/trial_requests.py second 9 40000
+// which have each answer of each call ten times where the draws do, and last the largest threshold verdict. The file stdout is what the
+// second program answers:
+//   python3 second/trials.py < crates/trials/stdin
 use requests::Read;
 
 const NEWLINE: u8 = 10;
@@ -89,12 +92,12 @@ fn answer(line: &[u8], numbers: &mut [u32]) -> bool {
 // A line of `size` bytes has ended; more bytes than there are places were not kept.
 fn end_line(line: &[u8], size: usize, numbers: &mut [u32]) {
     if line.len() < size {
-        show::text(b"?\n");
+        show::text(b"? no request\n");
         return;
     }
     let told = answer(&line[0..size], numbers);
     if !told {
-        show::text(b"?");
+        show::text(b"? no request");
     }
     show::text(b"\n");
 }
