@@ -1,10 +1,8 @@
-#!/usr/bin/env python3
 """Checks a sheet by multiplying out: python3 tools/check_sheet.py SCHEME-FILE SHEET
 
-Trusts neither prover nor compiler. An OPEN line is right when the rows weighted by its vector add up to 1, 0, .., 0; a CLOSED line when its
-vector begins with 1 and each of the set's rows times it is 0: then no combination of those rows is 1, 0, .., 0. The vector must also be the
-one that document 01 asks for, 0 at each row (column) that is no row of the set or a combination of earlier ones; as there is only one such
-vector, every changed digit is found."""
+Trusts neither prover nor compiler. OPEN: the rows weighted by the vector add up to 1, 0, .., 0. CLOSED: the vector begins with 1 and each of
+the set's rows times it is 0, so that no combination of them is 1, 0, .., 0. It must also be the one vector that document 01 asks for, 0 at
+each row (column) that is a combination of earlier ones; so every changed digit is found."""
 
 import sys
 
@@ -13,21 +11,20 @@ MODULI = (2, 3, 5, 7, 11, 13, 17, 19, 23, 29, 31, 127, 251, 257, 8191, 65521)
 
 def refusal_or_scheme(data):
     """The number of a refused file's refusal, else 0; and p, n, labels, rows."""
-    blocks = [data[i:i + 512] for i in range(0, len(data), 512)]
     if len(data) not in (1024, 1536):
         return 17, None
-    if any(sum(x * (i + 1) for i, x in enumerate(b[:508])) != int.from_bytes(b[508:], "little") for b in blocks):
-        return 18, None
-    if any(b[:8] != b"QRUL" + bytes([1 if i == 0 else 2, 1, i, 0]) for i, b in enumerate(blocks)):
-        return 19, None
+    blocks = [data[i:i + 512] for i in range(0, len(data), 512)]
     p, (n, d, e) = int.from_bytes(blocks[0][8:10], "little"), blocks[0][10:13]
     content = b"".join(b[8:508] for b in blocks[1:])
-    records = [content[25 * i:25 * i + 25] for i in range(d)]
+    records = [content[25 * i:25 * i + 25] for i in range(d) if content[25 * i:]]
     spare = blocks[0][13:508] + content[25 * d:] + b"".join(r[1 + 2 * e:] for r in records)
-    labels, rows = [r[:1] for r in records], [[int.from_bytes(r[1 + 2 * j:3 + 2 * j], "little") for j in range(e)] for r in records]
-    tests = {1: p in MODULI, 2: 1 <= n <= 16, 3: 1 <= d <= 32, 4: 1 <= e <= 12, 20: len(blocks) == 1 + -(-d // 20) and not any(spare),
-             6: all(1 <= label <= n for r in labels for label in r), 7: all(x < p for row in rows for x in row)}
-    return next((k for k, good in tests.items() if not good), 0), (p, n, [r[0] for r in labels if r], rows)
+    rows = [[int.from_bytes(r[1 + 2 * j:3 + 2 * j], "little") for j in range(e)] for r in records]
+    tests = {
+        18: all(sum(x * (i + 1) for i, x in enumerate(b[:508])) == int.from_bytes(b[508:], "little") for b in blocks),
+        19: all(b[:8] == b"QRUL" + bytes([1 if i == 0 else 2, 1, i, 0]) for i, b in enumerate(blocks)),
+        1: p in MODULI, 2: 1 <= n <= 16, 3: 1 <= d <= 32, 4: 1 <= e <= 12, 20: len(blocks) == 1 + -(-d // 20) and not any(spare),
+        6: all(1 <= r[0] <= n for r in records), 7: all(x < p for row in rows for x in row)}
+    return next((number for number, good in tests.items() if not good), 0), (p, n, [r[0] for r in records], rows)
 
 
 def kept(p, vectors):
@@ -49,12 +46,12 @@ def right(p, labels, rows, number, verdict, vector):
     if verdict == "OPEN":
         keep = kept(p, [row if i else [0] * e for i, row in zip(inside, rows)])
         sums = [sum(v * row[j] for v, row in zip(vector, rows)) % p for j in range(e)]
-        proved, length = sums == [1] + [0] * (e - 1), len(rows)
+        proved = sums == [1] + [0] * (e - 1)
     else:
         chosen = [row for i, row in zip(inside, rows) if i]
         keep = [True] + kept(p, [[row[j] for row in chosen] for j in range(1, e)])
-        proved, length = vector[:1] == [1] and all(sum(x * v for x, v in zip(row, vector)) % p == 0 for row in chosen), e
-    return len(vector) == length and proved and all(-p < 2 * v <= p and (k or v == 0) for k, v in zip(keep, vector))
+        proved = vector[:1] == [1] and all(sum(x * v for x, v in zip(row, vector)) % p == 0 for row in chosen)
+    return len(vector) == len(keep) and proved and all(-p < 2 * v <= p and (k or v == 0) for k, v in zip(keep, vector))
 
 
 def is_line(line, p, labels, rows, number):
@@ -68,7 +65,7 @@ def first_wrong(data, lines):
     """The number of the first wrong line, counted from 1; 0 where every line is right."""
     refusal, scheme = refusal_or_scheme(data)
     if refusal:
-        return 0 if lines == ["REFUSED %d" % refusal, ""] else 1
+        return int(lines != ["REFUSED %d" % refusal, ""])
     p, n, labels, rows = scheme
     if lines[0] != "SCHEME %d %d %d %d" % (p, n, len(rows), len(rows[0])):
         return 1
@@ -79,5 +76,4 @@ def first_wrong(data, lines):
 if __name__ == "__main__":
     with open(sys.argv[1], "rb") as file, open(sys.argv[2], newline="\n") as sheet:
         wrong = first_wrong(file.read(), sheet.read().split("\n"))
-    print("wrong at line %d" % wrong if wrong else "every line is right")
-    sys.exit(1 if wrong else 0)
+    sys.exit("wrong at line %d" % wrong if wrong else print("every line is right"))
