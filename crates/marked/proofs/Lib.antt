@@ -1,0 +1,7 @@
+pub mod Pairs
+pub mod Decided
+pub mod Asked
+pub mod Joins
+pub mod Multiplied
+pub mod Thresholds
+pub mod Marked
