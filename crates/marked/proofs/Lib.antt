@@ -1,5 +1,6 @@
 pub mod Pairs
 pub mod Decided
+pub mod Done
 pub mod Asked
 pub mod Joins
 pub mod Multiplied
