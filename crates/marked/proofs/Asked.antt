@@ -1,6 +1,6 @@
 -- The set question computed for a scheme: the verdict with its list is what `AskSays` permits, and all that it permits.
 -- Assumes nothing.
-use mathlib.Core.Path.{_≡_, refl, ap₂, _∙_}
+use mathlib.Core.Path.{_≡_, ap₂, _∙_}
 use mathlib.Core.Bool.{Bool, true, false}
 use mathlib.Core.List.{List}
 use Prim.Native.Nat.{ℕ, _<_, _^_}
@@ -16,8 +16,8 @@ use Rattle.ask.specs.declared.Verdict.{Verdict}
 use Rattle.ask.specs.declared.Verdict.the-variants.{Open, Closed}
 use Rattle.ask.specs.Says.{AskSays}
 use Rattle.ask.proofs.Says.{ask-answers, settled}
-use Rattle.marked.specs.Only.{Only, Opens, Closes, Asks}
-use Rattle.marked.proofs.Pairs.{three}
+use Rattle.marked.specs.Only.{Opens, Closes, Asks}
+use Rattle.marked.proofs.Parts.{three}
 use Rattle.marked.proofs.Decided.{decided, decided-opens, decided-closes}
 
 module _ (s : Shape) (labels entries : List ℕ) (scheme : IsScheme s labels entries) where
@@ -48,11 +48,13 @@ module _ (s : Shape) (labels entries : List ℕ) (scheme : IsScheme s labels ent
       free : (r z : List ℕ) → length r ≡ s .d → length z ≡ s .e → askRefusal s labels entries set (length r) (length z) ≡ 0
       free r z lr lz = ap₂ (askRefusal s labels entries set) lr lz ∙ ask-answers s labels entries set scheme inside
 
-      says-open : asked set ≡ (true, v) → (r z : List ℕ) → length r ≡ s .d → length z ≡ s .e → AskSays s labels entries set r z Open v z
+      says-open : asked set ≡ (true, v) → (r z : List ℕ) → length r ≡ s .d → length z ≡ s .e
+          → AskSays s labels entries set r z Open v z
       unfolding AskSays
       says-open q r z lr lz = (free r z lr lz, asked-opens q r z)
 
-      says-closed : asked set ≡ (false, v) → (r z : List ℕ) → length r ≡ s .d → length z ≡ s .e → AskSays s labels entries set r z Closed r v
+      says-closed : asked set ≡ (false, v) → (r z : List ℕ) → length r ≡ s .d → length z ≡ s .e
+          → AskSays s labels entries set r z Closed r v
       unfolding AskSays
       says-closed q r z lr lz = (free r z lr lz, asked-closes q r z)
 

@@ -4,11 +4,9 @@ use mathlib.Core.Path.{_≡_, refl, sym, ap, _∙_, subst, subst⁻¹}
 use mathlib.Core.Bool.{Bool, true, false, true≢false, false≢true}
 use mathlib.Core.List.{List, []}
 use mathlib.Core.Logic.{_⊎_, inl, inr}
-use Prim.Native.Nat.{ℕ, zero, suc, _<_, _≤_, _+_, _-_, _*_, _%_}
+use Prim.Native.Nat.{ℕ, zero, suc, _<_, _≤_, _*_, _%_}
 use native.Mathlib.Omega.{arith}
-use lib.ListN.{length}
 use Rattle.residue.specs.Prime.{Prime}
-use Rattle.linear.specs.Combination.{total}
 use Rattle.linear.specs.Flat.{place, listOf}
 use Rattle.linear.specs.Rows.{target, OpeningVector, Witness, Handed}
 use Rattle.linear.proofs.Carry.{total-cong}

@@ -1,4 +1,5 @@
--- Dealing, writing and building a rule where nothing is refused: what they leave is what their contracts permit, and all that they permit.
+-- Dealing, writing and building a rule where nothing is refused: what they leave is what their contracts permit, and all that they
+-- permit.
 -- Assumes nothing.
 use mathlib.Core.Path.{_≡_, refl, sym, ap, ap₂, _∙_}
 use mathlib.Core.List.{List}
@@ -6,9 +7,7 @@ use Prim.Native.Nat.{ℕ, _*_}
 use lib.ListN.{length}
 use borrow.Author.Tests.{eq-eqb}
 use Rattle.scheme.specs.declared.Shape.{Shape}
-use Rattle.scheme.specs.declared.Outcome.{Outcome}
 use Rattle.scheme.specs.declared.Outcome.the-variants.{Done}
-use Rattle.scheme.specs.declared.Made.{Made}
 use Rattle.scheme.specs.declared.Made.the-variants.{Scheme}
 use Rattle.scheme.specs.Outcome.{outcomeAt, leftAt, over}
 use Rattle.scheme.specs.Dealing.{sharesOf}
@@ -25,8 +24,8 @@ use Rattle.format.specs.Format.{blocks, fileOf}
 use Rattle.format.specs.Writing.{writeRefusal}
 use Rattle.writing.specs.Says.{WriteSays}
 use Rattle.writing.proofs.Settled as Writing
-use Rattle.marked.specs.Only.{Only, Deals, Writes, Builds}
-use Rattle.marked.proofs.Pairs.{two, three}
+use Rattle.marked.specs.Only.{Deals, Writes, Builds}
+use Rattle.marked.proofs.Parts.{two, three}
 
 pub deals : (s : Shape) (labels entries : List ℕ) (secret : ℕ) (randoms : List ℕ) → dealRefusal s labels entries secret randoms (s .d) ≡ 0
     → Deals s labels entries secret randoms (sharesOf s entries secret randoms)
@@ -47,14 +46,15 @@ deals s labels entries secret randoms free shares l = record {
       left = ap (λ (k : ℕ). leftAt k shares dealt) (sym none);
     }
 
-pub writes : (s : Shape) (labels entries : List ℕ) → IsScheme s labels entries → Writes s labels entries (fileOf 1 s labels entries)
-writes s labels entries scheme file l = record {
+pub writes : (s : Shape) (labels entries : List ℕ) → IsScheme s labels entries → (places : ℕ) → places ≡ 512 * blocks 1 (s .d)
+    → Writes s labels entries places (fileOf 1 s labels entries)
+writes s labels entries scheme places room file l = record {
   holds = says;
   alone = λ y g. let w = Writing.settled s labels entries file (y .0) Done (y .1) (fileOf 1 s labels entries) g says in two (w .0) (w .1);
 }
   where
     none : writeRefusal 1 s labels entries (length file) ≡ 0
-    none = ap (λ b. refusalOf s labels entries b 0) (eq-eqb (length file) (512 * blocks 1 (s .d)) l) ∙ scheme
+    none = ap (λ b. refusalOf s labels entries b 0) (eq-eqb (length file) (512 * blocks 1 (s .d)) (l ∙ room)) ∙ scheme
 
     says : WriteSays s labels entries file Done (fileOf 1 s labels entries)
     says = record {
@@ -68,7 +68,7 @@ builds p n text r free i fits l e ll le = record {
   holds = says;
   alone = λ y g.
       let w = Rule.settled p n text l e (y .0) (Scheme (shapeOf p n r)) (y .1) (y .2) (over (labelsOf (rows p r)) l)
-        (over (entriesOf (rows p r)) e) g says in three (w .0) (w .1) (w .2);
+      (over (entriesOf (rows p r)) e) g says in three (w .0) (w .1) (w .2);
 }
   where
     says : RuleSays p n text l e (Scheme (shapeOf p n r)) (over (labelsOf (rows p r)) l) (over (entriesOf (rows p r)) e)

@@ -1,11 +1,11 @@
--- Joining computed for a scheme and shares: whether they fit a dealing, and the code or the refusal that `JoinSays` permits, and all that it
--- permits.
+-- Joining computed for a scheme and shares: whether they fit a dealing, and the code or the refusal that `JoinSays` permits, and all that
+-- it permits.
 -- Assumes nothing.
 use mathlib.Core.Path.{_≡_, refl, sym, ap, _∙_}
 use mathlib.Core.Bool.{Bool, true, false, cond, not, _||_, true≢false, false≢true}
 use mathlib.Core.List.{List}
 use mathlib.Core.Logic.{_⊎_, inl, inr}
-use Prim.Native.Nat.{ℕ, _<_, _*_, _%_}
+use Prim.Native.Nat.{ℕ, _*_, _%_}
 use native.Mathlib.Nat.{mod-mod, mul-comm}
 use native.Mathlib.Omega.{arith}
 use lib.Dec.{eqb}
@@ -26,7 +26,7 @@ use Rattle.join.specs.declared.Joined.{Joined}
 use Rattle.join.specs.declared.Joined.the-variants.{Code, Refused}
 use Rattle.join.specs.Says.{JoinSays}
 use Rattle.join.proofs.Settled.{settled}
-use Rattle.marked.specs.Only.{Only, JoinsTo}
+use Rattle.marked.specs.Only.{JoinsTo}
 use Rattle.marked.proofs.Asked.{given, asked, asked-opens, asked-open, asked-closed}
 
 module _ (s : Shape) (labels entries : List ℕ) (scheme : IsScheme s labels entries) (set : ℕ) (shares : List ℕ) where
@@ -69,7 +69,9 @@ module _ (s : Shape) (labels entries : List ℕ) (scheme : IsScheme s labels ent
           ∙ sym (ap (λ o. cond o (place shares k) 0) e))
 
   abbrev Answer : Type 0
-  Answer = ((c : ℕ → ℕ) × Coefficients (s .p) (s .d) columns (s .e) goal c) ⊎ ((y : ℕ → ℕ) × Functional (s .p) (s .d) columns (s .e) goal y)
+  Answer =
+      ((c : ℕ → ℕ) × Coefficients (s .p) (s .d) columns (s .e) goal c)
+      ⊎ ((y : ℕ → ℕ) × Functional (s .p) (s .d) columns (s .e) goal y)
 
   abbrev isNone : Answer → Bool
   isNone (inl c) = false

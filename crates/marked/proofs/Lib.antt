@@ -1,4 +1,4 @@
-pub mod Pairs
+pub mod Parts
 pub mod Decided
 pub mod Done
 pub mod Asked

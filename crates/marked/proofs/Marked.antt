@@ -1,6 +1,6 @@
--- Document 01, "Marked examples": A to L as one table and one theorem, `marked`. Each row says of the definition that a contract cites that
--- the example's outcome is permitted and the only one, for lent result lists of any content and the right length (specs/Only.antt).
--- The rows are computed: each `refl` below is the definition's own decision, run.
+-- Document 01, "Marked examples": A to L as one table and one theorem, `marked`. Each row says, of the definition that a public contract
+-- cites, that the example's outcome is permitted and the only one, for lent result lists of any content and the right length
+-- (specs/Only.antt). The outcomes are computed: a `refl` below runs the decision of the one question.
 -- Assumes nothing.
 use mathlib.Core.Path.{_≡_, refl, sym}
 use mathlib.Core.List.{List, [], _∷_, _++_}
@@ -103,7 +103,7 @@ pub record Table : Type 0 where
   -- "L. The checks of S's two file blocks: 1122 and 6524." Each is the sum, and stands in the last four bytes of its block of the file.
   pub L-heading : checkOf 1 S labels entries 0 ≡ 1122
   pub L-rows : checkOf 1 S labels entries 1 ≡ 6524
-  pub L-file : Writes S labels entries (fileOf 1 S labels entries)
+  pub L-file : Writes S labels entries 1024 (fileOf 1 S labels entries)
   pub L-heading-bytes : numberOf 4 (λ k. place (fileOf 1 S labels entries) (508 + k)) ≡ 1122
   pub L-rows-bytes : numberOf 4 (λ k. place (fileOf 1 S labels entries) (1020 + k)) ≡ 6524
 
@@ -142,7 +142,8 @@ unfolding refusalOf numbersRefusal contentRefusal each isIn readBelow sharesOf p
 marked = record {
   A = deals S labels entries 13 (10 ∷ 2 ∷ []) refl;
   B = opens S labels entries S-scheme 21 (4 ∷ 0 ∷ 3 ∷ 0 ∷ 11 ∷ []) (omega arith) refl;
-  B-joined = joins-code S labels entries S-scheme 21 (8 ∷ 7 ∷ 10 ∷ 0 ∷ 11 ∷ []) refl (4 ∷ 0 ∷ 3 ∷ 0 ∷ 11 ∷ []) (13 ∷ 10 ∷ 2 ∷ []) refl refl;
+  B-joined = joins-code S labels entries S-scheme 21 (8 ∷ 7 ∷ 10 ∷ 0 ∷ 11 ∷ []) refl
+      (4 ∷ 0 ∷ 3 ∷ 0 ∷ 11 ∷ []) (13 ∷ 10 ∷ 2 ∷ []) refl refl;
   C = closes S labels entries S-scheme 5 (1 ∷ 10 ∷ 6 ∷ []) (omega arith) refl;
   D = closes S labels entries S-scheme 2 (1 ∷ 8 ∷ 0 ∷ []) (omega arith) refl;
   E = opens S labels entries S-scheme 31 (3 ∷ 14 ∷ 1 ∷ 0 ∷ 0 ∷ []) (omega arith) refl;
@@ -162,7 +163,7 @@ marked = record {
   K-zero = closes single (1 ∷ []) (0 ∷ []) zero-scheme 1 (1 ∷ []) (omega arith) refl;
   L-heading = refl;
   L-rows = refl;
-  L-file = writes S labels entries S-scheme;
+  L-file = writes S labels entries S-scheme 1024 refl;
   L-heading-bytes = refl;
   L-rows-bytes = refl;
 }

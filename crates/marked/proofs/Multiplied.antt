@@ -15,8 +15,8 @@ use Rattle.product.specs.declared.Verdict.{Verdict}
 use Rattle.product.specs.declared.Verdict.the-variants.{Yes, No}
 use Rattle.product.specs.Says.{ProductHanded, ProductSays}
 use Rattle.product.proofs.Says.{product-answers, says-yes, says-no, settled}
-use Rattle.marked.specs.Only.{Only, Products, ProductYes, ProductNo}
-use Rattle.marked.proofs.Pairs.{three}
+use Rattle.marked.specs.Only.{Products, ProductYes, ProductNo}
+use Rattle.marked.proofs.Parts.{three}
 use Rattle.marked.proofs.Decided.{decided, decided-opens, decided-closes}
 use Rattle.marked.proofs.Asked.{given}
 
@@ -31,7 +31,8 @@ module _ (s : Shape) (labels entries : List ℕ) (scheme : IsScheme s labels ent
   free : (r w : List ℕ) → length r ≡ s .d → length w ≡ pairs (s .e) → productRefusal s labels entries (length r) (length w) ≡ 0
   free r w lr lw = ap₂ (productRefusal s labels entries) lr lw ∙ product-answers s labels entries scheme
 
-  only : (r w : List ℕ) (a : Verdict) (r′ w′ : List ℕ) → ProductSays s labels entries r w a r′ w′ → Products s labels entries r w (a, r′, w′)
+  only : (r w : List ℕ) (a : Verdict) (r′ w′ : List ℕ) → ProductSays s labels entries r w a r′ w′
+      → Products s labels entries r w (a, r′, w′)
   only r w a r′ w′ h = record {
     holds = h;
     alone = λ y g. let q = settled s labels entries r w (y .0) a (y .1) (y .2) r′ w′ g h in three (q .0) (q .1) (q .2);

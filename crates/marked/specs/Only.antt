@@ -1,8 +1,9 @@
--- An outcome that is permitted, and the only one: of anything, and of each call, for lent result lists of any content and the right length.
+-- An outcome that is permitted and the only one: what this says of each call, for lent result lists of any content and the right length.
+-- The lists named last are what the call leaves.
 -- Assumes nothing.
 use mathlib.Core.Path.{_≡_}
 use mathlib.Core.List.{List}
-use Prim.Native.Nat.{ℕ, _*_}
+use Prim.Native.Nat.{ℕ}
 use lib.ListN.{length}
 use Rattle.linear.specs.Product.{pairs}
 use Rattle.scheme.specs.declared.Shape.{Shape}
@@ -23,7 +24,6 @@ use Rattle.product.specs.Says.{ProductSays}
 use Rattle.threshold.specs.declared.Verdict as Threshold
 use Rattle.threshold.specs.Says.{ThresholdSays}
 use Rattle.rule.specs.Says.{RuleSays}
-use Rattle.format.specs.Format.{blocks}
 use Rattle.writing.specs.Says.{WriteSays}
 
 -- P permits x and nothing else.
@@ -38,7 +38,7 @@ module _ (s : Shape) (labels entries : List ℕ) where
       (shares : List ℕ) → length shares ≡ s .d
       → Only (λ (o : Outcome × List ℕ). DealSays s labels entries secret randoms shares (o .0) (o .1)) (Done, dealt)
 
-  -- The set is open with this r, and z stays; or closed with this z, and r stays.
+  -- Asking of the set, with r and z lent, has only this outcome: an open set's r and the old z, or the old r and a closed set's z.
   abbrev pub Asks : ℕ → List ℕ → List ℕ → Verdict × List ℕ × List ℕ → Type 0
   Asks set r z = Only (λ (o : Verdict × List ℕ × List ℕ). AskSays s labels entries set r z (o .0) (o .1) (o .2))
 
@@ -52,7 +52,7 @@ module _ (s : Shape) (labels entries : List ℕ) where
   abbrev pub JoinsTo : ℕ → List ℕ → Joined → Type 0
   JoinsTo set shares = Only (JoinSays s labels entries set shares)
 
-  -- The product verdict is yes with this r, and w stays; or no with this w, and r stays.
+  -- The product verdict, with r and w lent, has only this outcome: yes with its r and the old w, no with the old r and its w.
   abbrev pub Products : List ℕ → List ℕ → Product.Verdict × List ℕ × List ℕ → Type 0
   Products r w = Only (λ (o : Product.Verdict × List ℕ × List ℕ). ProductSays s labels entries r w (o .0) (o .1) (o .2))
 
@@ -66,10 +66,10 @@ module _ (s : Shape) (labels entries : List ℕ) where
   abbrev pub ThresholdIs : ℕ → Threshold.Verdict → Type 0
   ThresholdIs t = Only (ThresholdSays s labels entries t)
 
-  -- Writing the scheme is done, and leaves this file.
-  abbrev pub Writes : List ℕ → Type 0
-  Writes written =
-      (file : List ℕ) → length file ≡ 512 * blocks 1 (s .d)
+  -- Writing the scheme to so many places is done, and leaves this file.
+  abbrev pub Writes : ℕ → List ℕ → Type 0
+  Writes places written =
+      (file : List ℕ) → length file ≡ places
       → Only (λ (o : Outcome × List ℕ). WriteSays s labels entries file (o .0) (o .1)) (Done, written)
 
 -- The text is a rule, and building it gives this scheme, whose labels and entries stand in the first places of the lent lists.

@@ -1,4 +1,4 @@
--- Equality of outcomes: of pairs and of triples, part by part.
+-- Equality of outcomes part by part: an answer with one list, and with two.
 -- Assumes nothing.
 use mathlib.Core.Path.{Path, _≡_, ap, _∙_}
 
