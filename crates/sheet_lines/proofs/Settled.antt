@@ -53,7 +53,8 @@ module _ (s : Shape) (labels entries : List ℕ) where
   shows-settled v set false false x y h g =
       (refl, handed-one v set false false [] x [] y (h .0, h .1, refl) (g .0, g .1, refl) .2)
 
-  pub line-settled : Valid s labels entries → (set : ℕ) (t u : List ℕ) → IsLine s labels entries set t → IsLine s labels entries set u → t ≡ u
+  pub line-settled : Valid s labels entries → (set : ℕ) (t u : List ℕ) → IsLine s labels entries set t → IsLine s labels entries set u
+      → t ≡ u
   line-settled v set t u x y =
       let w = shows-settled v set (x .opens) (y .opens) (x .vector) (y .vector) (x .shows) (y .shows) in
       x .says ∙ ap₂ (setText (s .p) set) (w .0) (w .1) ∙ sym (y .says)
