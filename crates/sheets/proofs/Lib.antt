@@ -1,2 +1,3 @@
 pub mod Files
 pub mod Settled
+pub mod Parts
