@@ -1,4 +1,4 @@
--- A file has one sheet at most, and its parts, printed one after another until the first empty one, are its sheet.
+-- A file has one sheet, and its parts, printed one after another until the first empty one, are its sheet.
 -- Assumes nothing.
 use mathlib.Core.Path.{_≡_, refl, sym, ap, ap₂, _∙_, subst, subst⁻¹}
 use mathlib.Core.List.{List, [], _++_, append-assoc, append-nil}
@@ -12,6 +12,7 @@ use Rattle.scheme.specs.declared.Shape.{Shape}
 use Rattle.sheet_lines.specs.Texts.{headingText, refusedText}
 use Rattle.sheet_lines.specs.Lines.{IsLines}
 use Rattle.sheet_lines.proofs.Settled.{lines-settled, lines-join, lines-not-empty, heading-not-empty, refused-not-empty}
+use Rattle.sheet_lines.proofs.Computed.{linesOf, lines-are}
 use Rattle.sheets.specs.Sheet.{fileRefusal, shapeOf, labelsOf, entriesOf, SchemeSheet, SheetAt, IsSheet}
 use Rattle.sheets.specs.Sheet.{SchemePart, RefusedPart, PartAt, IsPart, together}
 use Rattle.sheets.proofs.Files.{file-valid}
@@ -27,6 +28,19 @@ sheet-settled file t u = go (fileRefusal file) refl
         (x .1) (y .1))
         ∙ sym (y .2)
     go (suc r) q x y = x ∙ sym y
+
+pub sheet-exists : (file : List ℕ) → (text : List ℕ) × IsSheet file text
+unfolding IsSheet
+sheet-exists file = go (fileRefusal file) refl
+  where
+    go : (r : ℕ) → fileRefusal file ≡ r → (text : List ℕ) × SheetAt r file text
+    go zero q =
+        let v = file-valid file q in
+        let lines = linesOf (shapeOf file) (labelsOf file) (entriesOf file) v 0 (2 ^ shapeOf file .n) in (
+          headingText (shapeOf file) ++ lines,
+          (lines, lines-are (shapeOf file) (labelsOf file) (entriesOf file) v 0 (2 ^ shapeOf file .n), refl),
+        )
+    go (suc r) q = (refusedText (suc r), refl)
 
 -- The sheet of a refused file is the line of its refusal.
 pub starts-with-refused : (file t : List ℕ) → IsSheet file t → 0 < fileRefusal file → t ≡ refusedText (fileRefusal file)
