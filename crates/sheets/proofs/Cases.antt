@@ -64,7 +64,8 @@ pub only-sheet : (text : List ℕ) → IsSheet (fileOf 1 shape labels entries) t
 only-sheet text h = sheet-settled (fileOf 1 shape labels entries) text (heading ++ lines) h the-sheet
 
 -- Example B "on the sheet": `21 OPEN 4 0 3 0 -6`
-marked-line : setText 17 21 true (4 ∷ 0 ∷ 3 ∷ 0 ∷ 11 ∷ []) ≡ 50 ∷ 49 ∷ 32 ∷ 79 ∷ 80 ∷ 69 ∷ 78 ∷ 32 ∷ 52 ∷ 32 ∷ 48 ∷ 32 ∷ 51 ∷ 32 ∷ 48 ∷ 32 ∷ 45 ∷ 54 ∷ 10 ∷ []
+marked-line : setText 17 21 true (4 ∷ 0 ∷ 3 ∷ 0 ∷ 11 ∷ []) ≡
+    50 ∷ 49 ∷ 32 ∷ 79 ∷ 80 ∷ 69 ∷ 78 ∷ 32 ∷ 52 ∷ 32 ∷ 48 ∷ 32 ∷ 51 ∷ 32 ∷ 48 ∷ 32 ∷ 45 ∷ 54 ∷ 10 ∷ []
 unfolding setText vectorText decimal digitsIn wholeText
 marked-line = refl
 
