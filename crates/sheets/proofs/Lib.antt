@@ -1,0 +1,4 @@
+pub mod Files
+pub mod Settled
+pub mod Parts
+pub mod Cases
