@@ -18,5 +18,6 @@ pub set-handed : (s : Shape) (labels entries : List ℕ) (set : ℕ) (r z r′ z
     → ((k : ℕ) → k < s .d → bit chosen k ≡ ofSet set labels k) → Answered (s .p) (s .d) (s .e) chosen entries r z a r′ z′
     → (o : Bool) → a .opens ≡ o → Set.Handed s labels entries set r z o r′ z′
 set-handed s labels entries set r z r′ z′ a chosen same an o q =
-    handed-same (s .p) (s .d) (s .e) (entry (s .e) entries) (entry (s .e) entries) (bit chosen) (ofSet set labels) (λ k j lk lj. refl) same
-    r z o r′ z′ (subst (λ (o : Bool). Rows.Handed (s .p) (s .d) (s .e) (entry (s .e) entries) (bit chosen) r z o r′ z′) q (an .handed))
+    handed-same (s .p) (s .d) (s .e) (entry (s .e) entries) (entry (s .e) entries) (bit chosen) (ofSet set labels)
+    (λ k j lk lj. refl) same r z o r′ z′
+    (subst (λ (o : Bool). Rows.Handed (s .p) (s .d) (s .e) (entry (s .e) entries) (bit chosen) r z o r′ z′) q (an .handed))

@@ -40,8 +40,14 @@ same-length c = search needs
 
 returns : tie.Need-returns
 returns c =
-    put-head (c .before .before .before .before .before .before .before .before .before .before .before .before .before .before .before .before .before .before .before .before .before .before .before .before .before .before .before .before .before .args .out .now) (c .before .before .before .before .before .before .before .before .before .before .before .before .before .before .before .before .before .before .before .before .before .before .before .before .before .before .before .before .before .args .s) (c .before .before .before .before .before .before .before .before .before .before .before .before .before .before .before .before .before .before .before .before .before .before .before .before .before .put-text .ensures) (c .before .before .before .before .before .before .before .before .before .before .before .before .before .before .before .before .before .before .before .before .before .put-field .ensures .0)
-    (c .before .before .before .before .before .before .before .before .before .before .before .before .before .before .before .before .before .put-field2 .ensures .0) (c .before .before .before .before .before .before .before .before .before .before .before .before .put-field3 .ensures .0) (c .before .before .before .before .before .before .before .put-field4 .ensures .0) (c .before .before .put-text2 .ensures)
+    let e = c .before .before .before .before .before .before .before in
+    let n = e .before .before .before .before .before .before .before .before .before .before in
+    let w = n .before .before .before .before .before .before .before .before in
+    let a = w .before .before .before .before .args in
+    let d = e .before .before .before .before .before .put-field3 .ensures .0 in
+    let p = n .before .before .before .before .put-field .ensures .0 in
+    let l = c .before .before .put-text2 .ensures in
+    put-head (a .out .now) (a .s) (w .put-text .ensures) p (n .put-field2 .ensures .0) d (e .put-field4 .ensures .0) l
 
 pub put-heading-spec : {M : Type 1} → statement M
 put-heading-spec =

@@ -25,7 +25,10 @@ same-length c = search needs
 
 returns : tie.Need-returns
 returns c =
-    put-refusal (c .before .before .before .before .before .before .before .before .before .before .before .before .before .before .before .args .out .now) (c .before .before .before .before .before .before .before .before .before .before .before .before .before .before .before .args .k) (c .before .before .before .before .before .before .before .before .before .before .before .put-text .ensures) (c .before .before .before .before .before .before .before .put-field .ensures .0) (c .before .before .put-text2 .ensures)
+    let f = c .before .before .before .before .before .before .before in
+    let w = f .before .before .before .before in
+    let a = w .before .before .before .before .args in
+    put-refusal (a .out .now) (a .k) (w .put-text .ensures) (f .put-field .ensures .0) (c .before .before .put-text2 .ensures)
 
 pub put-refused-spec : {M : Type 1} → statement M
 put-refused-spec =
