@@ -26,8 +26,10 @@ same-length c = search needs
 
 returns : tie.Need-returns
 returns c =
-    let a = c .before .before .before .before .before .before .before .before .before .before .before .before .before .before .before .before .before .before .before .args in
-    let n = c .before .before .before .before .before .before .before .before .before .before .before .before .before .before .before .put-number .ensures in
+    let a = c .before .before .before .before .before .before .before .before .before .before .before .before .before .before .before
+    .before .before .before .before .args in
+    let n = c .before .before .before .before .before .before .before .before .before .before .before .before .before .before .before
+    .put-number .ensures in
     let v = c .before .before .before .before .before .before .before .before .before .before .before .put-verdict .ensures in
     let t = c .before .before .before .before .before .before .before .put-vector .ensures in
     let l = c .before .before .put-text .ensures in (

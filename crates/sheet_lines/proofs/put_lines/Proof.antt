@@ -12,7 +12,9 @@ use Rattle.sheet_lines.proofs.put_lines.Statement.{statement}
 use Rattle.sheet_lines.proofs.put_lines.Tie as tie
 
 abbrev Inv-loop : tie.InvT-loop
-Inv-loop out₀ s labels entries first count r₀ z₀ end₀ i₀ out r z end i = (i ≤ count) × (end ≤ 256 * i) × (length out ≡ length out₀) × (length r ≡ length r₀) × (length z ≡ length z₀) × PutSome (IsLines s labels entries first i) out₀ 0 end out
+Inv-loop out₀ s labels entries first count r₀ z₀ end₀ i₀ out r z end i =
+    (i ≤ count) × (end ≤ 256 * i) × (length out ≡ length out₀) × (length r ≡ length r₀) × (length z ≡ length z₀)
+    × PutSome (IsLines s labels entries first i) out₀ 0 end out
 
 abbrev μ-loop : tie.MeasureT-loop
 μ-loop out₀ s labels entries first count r₀ z₀ end₀ i₀ out r z end i = count - i
@@ -31,7 +33,18 @@ put-set-requires c κs =
     let t = q .1 .0 in (
       q .0,
       (
-        (t .0, t .1, t .2, t .3, t .4, t .5, t .6, l .3 ∙ t .7, l .4 ∙ t .8, omega (arith, l .1, l .2, t .10, c .before .before .before .loop-test .taken)),
+        (
+          t .0,
+          t .1,
+          t .2,
+          t .3,
+          t .4,
+          t .5,
+          t .6,
+          l .3 ∙ t .7,
+          l .4 ∙ t .8,
+          omega (arith, l .1, l .2, t .10, c .before .before .before .loop-test .taken),
+        ),
         (q .1 .1 .0, q .1 .1 .1),
       ),
     )
@@ -44,7 +57,8 @@ loop-less c = search needs
 
 loop-again : tie.Need-loop-again Inv-loop μ-loop
 loop-again c =
-    let a = c .before .before .before .before .before .before .before .before .before .before .before .before .before .before .before .before .before .args in
+    let a = c .before .before .before .before .before .before .before .before .before .before .before .before .before .before .before
+    .before .before .args in
     let l = c .before .before .before .before .before .before .before .before .before .before .before .loop in
     let p = c .before .before .before .before .before .before .put-set in (
       omega arith,
@@ -66,9 +80,13 @@ same-length-3 c = search needs
 
 returns : tie.Need-returns Inv-loop μ-loop
 returns c =
-    let a = c .before .before .before .before .before .before .before .args in
+    let from = c .before .before .before .before .before .before .before in
+    let a = from .args in
     let l = c .before .loop in
-    lines-end (a .s) (a .labels .now) (a .entries .now) (a .first) (a .out .now) 0 (l .i) (a .count) (omega (arith, l .inv .0)) (l .inv .5)
+    let all : l .i ≡ a .count = omega (arith, l .inv .0) in (
+      lines-end (a .s) (a .labels .now) (a .entries .now) (a .first) (a .out .now) 0 (l .i) (a .count) all (l .inv .5),
+      omega (arith, l .inv .1, from .pre .1 .0 .10),
+    )
 
 pub put-lines-spec : {M : Type 1} → statement M
 put-lines-spec =

@@ -16,7 +16,8 @@ ask-requires c κs = search needs
 
 put-line-requires : tie.Need-put-line-requires
 put-line-requires c κs =
-    let s = c .before .before .before .before .before .before .before .before .before .before .before .before .before .before .before .before in
+    let s = c .before .before .before .before .before .before .before .before .before .before .before .before .before .before .before
+    .before in
     let k = c .before .before .before .before .before .before .before .before .before .before .chosen-rows in
     let q = c .before .before .before .before .before .before .before .ask in
     let h = shows-open (s .args .s) (s .args .labels .now) (s .args .entries .now) (s .args .set) (s .args .r .now) (s .args .z .now)
@@ -37,7 +38,8 @@ same-length-3 c = search needs
 
 returns : tie.Need-returns
 returns c =
-    let s = c .before .before .before .before .before .before .before .before .before .before .before .before .before .before .before .before .before .before .before in
+    let s = c .before .before .before .before .before .before .before .before .before .before .before .before .before .before .before
+    .before .before .before .before in
     let k = c .before .before .before .before .before .before .before .before .before .before .before .before .before .chosen-rows in
     let q = c .before .before .before .before .before .before .before .before .before .before .ask in
     let h = shows-open (s .args .s) (s .args .labels .now) (s .args .entries .now) (s .args .set) (s .args .r .now) (s .args .z .now)
@@ -51,7 +53,8 @@ returns c =
 
 put-line-requires-2 : tie.Need-put-line-requires-2
 put-line-requires-2 c κs =
-    let s = c .before .before .before .before .before .before .before .before .before .before .before .before .before .before .before .before in
+    let s = c .before .before .before .before .before .before .before .before .before .before .before .before .before .before .before
+    .before in
     let k = c .before .before .before .before .before .before .before .before .before .before .chosen-rows in
     let q = c .before .before .before .before .before .before .before .ask in
     let h = shows-closed (s .args .s) (s .args .labels .now) (s .args .entries .now) (s .args .set) (s .args .r .now) (s .args .z .now)
@@ -72,7 +75,8 @@ same-length-6 c = search needs
 
 returns-2 : tie.Need-returns-2
 returns-2 c =
-    let s = c .before .before .before .before .before .before .before .before .before .before .before .before .before .before .before .before .before .before .before in
+    let s = c .before .before .before .before .before .before .before .before .before .before .before .before .before .before .before
+    .before .before .before .before in
     let k = c .before .before .before .before .before .before .before .before .before .before .before .before .before .chosen-rows in
     let q = c .before .before .before .before .before .before .before .before .before .before .ask in
     let h = shows-closed (s .args .s) (s .args .labels .now) (s .args .entries .now) (s .args .set) (s .args .r .now) (s .args .z .now)

@@ -12,7 +12,8 @@ use Rattle.sheet_lines.proofs.put_vector.Statement.{statement}
 use Rattle.sheet_lines.proofs.put_vector.Tie as tie
 
 abbrev Inv-loop : tie.InvT-loop
-Inv-loop out₀ at p vector end₀ i₀ t7 out end i = (i ≤ length vector) × (end ≤ at + 7 * i) × (length out ≡ length out₀) × Put out₀ at (vectorText p (take i vector)) end out
+Inv-loop out₀ at p vector end₀ i₀ t7 out end i =
+    (i ≤ length vector) × (end ≤ at + 7 * i) × (length out ≡ length out₀) × Put out₀ at (vectorText p (take i vector)) end out
 
 abbrev μ-loop : tie.MeasureT-loop
 μ-loop out₀ at p vector end₀ i₀ t7 out end i = length vector - i
@@ -37,8 +38,12 @@ shared-slice-read-put-residue c = search needs
 put-residue-requires : tie.Need-put-residue-requires Inv-loop μ-loop
 put-residue-requires c κs =
     let l = c .before .before .before .before .before .before .before .before .loop in
-    let t = c .before .before .before .before .put-text in
-    (c .before .before .before .before .before .before .before .before .before .before .before .pre .1 (l .i) (c .before .before .before .before .before .before .before .loop-test .taken), c .before .before .before .before .before .before .before .before .before .before .before .pre .0 .0, omega (arith, l .inv .1, l .inv .2, t .ensures .0, t .kept .0))
+    let t = c .before .before .before .before .put-text in (
+      c .before .before .before .before .before .before .before .before .before .before .before .pre .1 (l .i)
+          (c .before .before .before .before .before .before .before .loop-test .taken),
+      c .before .before .before .before .before .before .before .before .before .before .before .pre .0 .0,
+      omega (arith, l .inv .1, l .inv .2, t .ensures .0, t .kept .0),
+    )
 
 add-i : tie.Need-add-i Inv-loop μ-loop
 add-i c = search needs
@@ -55,7 +60,9 @@ loop-again c =
       omega arith,
       omega (arith, l .inv .1, t .ensures .0, r .ensures .1),
       omega (arith, l .inv .2, t .kept .0, r .kept .0),
-      vector-turn (a .out .now) (a .at) (a .p) (a .vector .now) (l .i) (c .before .before .before .before .before .before .before .before .before .before .loop-test .taken) (l .inv .3) (t .ensures) (r .ensures .0),
+      vector-turn (a .out .now) (a .at) (a .p) (a .vector .now) (l .i)
+          (c .before .before .before .before .before .before .before .before .before .before .loop-test .taken) (l .inv .3) (t .ensures)
+          (r .ensures .0),
     )
 
 same-length : tie.Need-same-length Inv-loop μ-loop
@@ -64,8 +71,10 @@ same-length c = search needs
 returns : tie.Need-returns Inv-loop μ-loop
 returns c =
     let a = c .before .before .before .before .args in
-    let l = c .before .loop in
-    (vector-end (a .out .now) (a .at) (a .p) (a .vector .now) (l .i) (omega (arith, l .inv .0)) (l .inv .3), omega (arith, l .inv .0, l .inv .1))
+    let l = c .before .loop in (
+      vector-end (a .out .now) (a .at) (a .p) (a .vector .now) (l .i) (omega (arith, l .inv .0)) (l .inv .3),
+      omega (arith, l .inv .0, l .inv .1),
+    )
 
 pub put-vector-spec : {M : Type 1} → statement M
 put-vector-spec =

@@ -19,8 +19,10 @@ same-length c = search needs
 returns : tie.Need-returns
 returns c =
     let s = c .before .before .before .before .before .before .before .args in
-    let t = c .before .before .put-text .ensures in
-    (put-verdict-text (s .out .now) (s .at) (s .opens) true (c .before .before .before .before .before .if1 .taken) t, omega (arith, t .0))
+    let t = c .before .before .put-text .ensures in (
+      put-verdict-text (s .out .now) (s .at) (s .opens) true (c .before .before .before .before .before .if1 .taken) t,
+      omega (arith, t .0),
+    )
 
 slice-aggregate-put-text-2 : tie.Need-slice-aggregate-put-text-2
 slice-aggregate-put-text-2 c = search needs
@@ -34,8 +36,10 @@ same-length-2 c = search needs
 returns-2 : tie.Need-returns-2
 returns-2 c =
     let s = c .before .before .before .before .before .before .before .args in
-    let t = c .before .before .put-text2 .ensures in
-    (put-verdict-text (s .out .now) (s .at) (s .opens) false (c .before .before .before .before .before .if1 .left) t, omega (arith, t .0))
+    let t = c .before .before .put-text2 .ensures in (
+      put-verdict-text (s .out .now) (s .at) (s .opens) false (c .before .before .before .before .before .if1 .left) t,
+      omega (arith, t .0),
+    )
 
 pub put-verdict-spec : {M : Type 1} → statement M
 put-verdict-spec =
