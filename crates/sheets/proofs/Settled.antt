@@ -2,6 +2,7 @@
 -- permits are equal.
 -- Assumes nothing.
 use mathlib.Core.Path.{_≡_, refl, sym, ap, _∙_}
+use mathlib.Core.Bool.{true}
 use mathlib.Core.List.{List}
 use Prim.Native.Nat.{ℕ, zero, suc, _*_, _-_, _/_, _^_, _<_, min}
 use native.Mathlib.Omega.{arith}
@@ -9,9 +10,8 @@ use lib.Dec.{eqb, leb}
 use lib.ListN.{length}
 use Rattle.scheme.specs.declared.Shape.{Shape}
 use Rattle.scheme.specs.Tests.{unless}
-use Rattle.scheme.specs.Refusal.{setRefusal}
 use Rattle.scheme.specs.Outcome.{over}
-use Rattle.scheme.proofs.Refusals.{Valid, valid, refusal-more, orElse-zero}
+use Rattle.scheme.proofs.Refusals.{valid}
 use Rattle.sheet_lines.specs.Texts.{refusedText}
 use Rattle.sheet_lines.specs.Lines.{IsLine}
 use Rattle.sheet_lines.proofs.Settled.{line-settled, lines-settled}
@@ -20,6 +20,7 @@ use Rattle.sheets.specs.declared.Written.the-variants.{Bytes, Refused}
 use Rattle.sheets.specs.Sheet.{fileRefusal, shapeOf, labelsOf, entriesOf, PartAt, IsPart}
 use Rattle.sheets.specs.Says.{PrintSays, lineRefusal, LineSays, RefusedSays, PartSays}
 use Rattle.sheets.proofs.Files.{file-valid}
+use Rattle.sheets.proofs.Prints.{line-scheme}
 
 -- Where `Is` holds of one text at most.
 module _ (refusal : ℕ) (Is : List ℕ → Type 0) (out : List ℕ) (one : refusal ≡ 0 → (t u : List ℕ) → Is t → Is u → t ≡ u) where
@@ -37,15 +38,11 @@ module _ (refusal : ℕ) (Is : List ℕ → Type 0) (out : List ℕ) (one : refu
   print-settled (Refused k) (Bytes n) x y g h = absurd (never-both k (h .0) (g .0) (g .1))
   print-settled (Refused j) (Refused k) x y g h = (ap Refused (sym (g .0) ∙ h .0), g .2 ∙ sym (h .2))
 
-line-valid : (s : Shape) (labels entries : List ℕ) (set places : ℕ) → lineRefusal s labels entries set places ≡ 0 → Valid s labels entries
-line-valid s labels entries set places h = valid s labels entries (eqb places 256)
-    (orElse-zero _ _ (sym (refusal-more s labels entries (eqb places 256) (setRefusal (s .n) set)) ∙ h) .0)
-
 pub line-says-settled : (s : Shape) (labels entries : List ℕ) (set : ℕ) (out : List ℕ) (a b : Written) (x y : List ℕ)
     → LineSays s labels entries set out a x → LineSays s labels entries set out b y → (a ≡ b) × (x ≡ y)
 line-says-settled s labels entries set out =
     print-settled (lineRefusal s labels entries set (length out)) (IsLine s labels entries set) out
-    (λ h. line-settled s labels entries (line-valid s labels entries set (length out) h) set)
+    (λ h. line-settled s labels entries (valid s labels entries true (line-scheme s labels entries set (length out) h)) set)
 
 pub refused-says-settled : (k : ℕ) (out : List ℕ) (a b : Written) (x y : List ℕ) → RefusedSays k out a x → RefusedSays k out b y
     → (a ≡ b) × (x ≡ y)

@@ -1,6 +1,7 @@
 -- `sheet_lines::put_heading` meets its contract: the word, four numbers and the line's end, one behind the other.
 -- Assumes nothing.
 use Rattle.sheet_lines.proofs.Texts.{put-head}
+use native.Mathlib.Omega.{arith}
 use borrow.Author.Needs.{needs}
 use Rattle.sheet_lines.proofs.put_heading.Statement.{statement}
 use Rattle.sheet_lines.proofs.put_heading.Tie as tie
@@ -40,14 +41,22 @@ same-length c = search needs
 
 returns : tie.Need-returns
 returns c =
-    let e = c .before .before .before .before .before .before .before in
-    let n = e .before .before .before .before .before .before .before .before .before .before in
-    let w = n .before .before .before .before .before .before .before .before in
-    let a = w .before .before .before .before .args in
-    let d = e .before .before .before .before .before .put-field3 .ensures .0 in
-    let p = n .before .before .before .before .put-field .ensures .0 in
+    let from =
+    c .before .before .before .before .before .before .before .before .before .before .before .before .before .before
+    .before .before .before .before .before .before .before .before .before .before .before .before .before .before .before in
+    let w = c .before .before .before .before .before .before .before .before .before .before .before .before .before
+    .before .before .before .before .before .before .before .before .before .before .before .before .put-text .ensures in
+    let p = c .before .before .before .before .before .before .before .before .before .before .before
+    .before .before .before .before .before .before .before .before .before .before .put-field .ensures in
+    let n = c .before .before .before .before .before .before .before .before .before .before .before .before .before .before .before
+    .before .before .put-field2 .ensures in
+    let d = c .before .before .before .before .before .before .before .before .before .before .before .before .put-field3 .ensures in
+    let e = c .before .before .before .before .before .before .before .put-field4 .ensures in
     let l = c .before .before .put-text2 .ensures in
-    put-head (a .out .now) (a .s) (w .put-text .ensures) p (n .put-field2 .ensures .0) d (e .put-field4 .ensures .0) l
+    let room = from .pre .2 in (
+      put-head (from .args .out .now) (from .args .s) w (p .0) (n .0) (d .0) (e .0) l,
+      omega (arith, w .0, p .1, n .1, d .1, e .1, l .0, room),
+    )
 
 pub put-heading-spec : {M : Type 1} → statement M
 put-heading-spec =

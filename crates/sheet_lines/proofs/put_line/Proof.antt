@@ -26,10 +26,11 @@ same-length c = search needs
 
 returns : tie.Need-returns
 returns c =
-    let b = c .before .before .before .before .before .before .before .before .before .before .before in
-    let a = b .before .before .before .before .before .before .before .before .args in
-    let n = b .before .before .before .before .put-number .ensures in
-    let v = b .put-verdict .ensures in
+    let a = c .before .before .before .before .before .before .before .before .before .before .before .before .before .before .before
+    .before .before .before .before .args in
+    let n = c .before .before .before .before .before .before .before .before .before .before .before .before .before .before .before
+    .put-number .ensures in
+    let v = c .before .before .before .before .before .before .before .before .before .before .before .put-verdict .ensures in
     let t = c .before .before .before .before .before .before .before .put-vector .ensures in
     let l = c .before .before .put-text .ensures in (
       put-set-text (a .out .now) (a .at) (a .p) (a .set) (a .opens) (a .vector .now) (n .0) (v .0) (t .0) l,

@@ -20,8 +20,7 @@ abbrev μ-loop : tie.MeasureT-loop
 μ-loop out₀ s labels entries first count r₀ z₀ end₀ i₀ out r z end i = count - i
 
 loop-holds : tie.Need-loop-holds Inv-loop μ-loop
-loop-holds c =
-    let a = c .before .before .before .before .before .args in
+loop-holds c = let a = c .before .before .before .before .before .args in
     (omega arith, omega arith, refl, refl, refl, lines-none (a .s) (a .labels .now) (a .entries .now) (a .first) (a .out .now) 0)
 
 add-put-set : tie.Need-add-put-set Inv-loop μ-loop
@@ -29,14 +28,23 @@ add-put-set c = search needs
 
 put-set-requires : tie.Need-put-set-requires Inv-loop μ-loop
 put-set-requires c κs =
-    let b = c .before .before .before .before in
-    let q = b .before .before .before .before .before .before .pre in
-    let l = b .loop .inv in
-    let t = q .1 .0 in
-    let h = c .before .before .before .loop-test .taken in (
+    let q = c .before .before .before .before .before .before .before .before .before .before .pre in
+    let l = c .before .before .before .before .loop .inv in
+    let t = q .1 .0 in (
       q .0,
       (
-        (t .0, t .1, t .2, t .3, t .4, t .5, t .6, l .3 ∙ t .7, l .4 ∙ t .8, omega (arith, h, l .1, l .2, t .10)),
+        (
+          t .0,
+          t .1,
+          t .2,
+          t .3,
+          t .4,
+          t .5,
+          t .6,
+          l .3 ∙ t .7,
+          l .4 ∙ t .8,
+          omega (arith, l .1, l .2, t .10, c .before .before .before .loop-test .taken),
+        ),
         (q .1 .1 .0, q .1 .1 .1),
       ),
     )
@@ -49,11 +57,11 @@ loop-less c = search needs
 
 loop-again : tie.Need-loop-again Inv-loop μ-loop
 loop-again c =
-    let b = c .before .before .before .before .before .before .before .before .before .before .before in
-    let a = b .before .before .before .before .before .before .args in
-    let l = b .loop in
+    let a = c .before .before .before .before .before .before .before .before .before .before .before .before .before .before .before
+    .before .before .args in
+    let l = c .before .before .before .before .before .before .before .before .before .before .before .loop in
     let p = c .before .before .before .before .before .before .put-set in (
-      omega (arith, c .before .before .before .before .before .before .before .before .before .before .loop-test .taken),
+      omega arith,
       omega (arith, l .inv .1, p .ensures .1),
       p .kept .0 ∙ l .inv .2,
       p .kept .1 .1 .1 .1 .1 .1 .0 ∙ l .inv .3,
@@ -72,10 +80,13 @@ same-length-3 c = search needs
 
 returns : tie.Need-returns Inv-loop μ-loop
 returns c =
-    let a = c .before .before .before .before .before .before .before .args in
+    let from = c .before .before .before .before .before .before .before in
+    let a = from .args in
     let l = c .before .loop in
-    lines-end (a .s) (a .labels .now) (a .entries .now) (a .first) (a .out .now) 0 (l .i) (a .count) (omega (arith, l .inv .0))
-    (l .inv .5)
+    let all : l .i ≡ a .count = omega (arith, l .inv .0) in (
+      lines-end (a .s) (a .labels .now) (a .entries .now) (a .first) (a .out .now) 0 (l .i) (a .count) all (l .inv .5),
+      omega (arith, l .inv .1, from .pre .1 .0 .10),
+    )
 
 pub put-lines-spec : {M : Type 1} → statement M
 put-lines-spec =

@@ -1,6 +1,7 @@
 -- `sheet_lines::put_refused` meets its contract: the word, the number and the line's end, one behind the other.
 -- Assumes nothing.
 use Rattle.sheet_lines.proofs.Texts.{put-refusal}
+use native.Mathlib.Omega.{arith}
 use borrow.Author.Needs.{needs}
 use Rattle.sheet_lines.proofs.put_refused.Statement.{statement}
 use Rattle.sheet_lines.proofs.put_refused.Tie as tie
@@ -25,10 +26,14 @@ same-length c = search needs
 
 returns : tie.Need-returns
 returns c =
-    let f = c .before .before .before .before .before .before .before in
-    let w = f .before .before .before .before in
-    let a = w .before .before .before .before .args in
-    put-refusal (a .out .now) (a .k) (w .put-text .ensures) (f .put-field .ensures .0) (c .before .before .put-text2 .ensures)
+    let from = c .before .before .before .before .before .before .before .before .before .before .before .before .before .before
+    .before in
+    let w = c .before .before .before .before .before .before .before .before .before .before .before .put-text .ensures in
+    let k = c .before .before .before .before .before .before .before .put-field .ensures in
+    let l = c .before .before .put-text2 .ensures in (
+      put-refusal (from .args .out .now) (from .args .k) w (k .0) l,
+      omega (arith, w .0, k .1, l .0, from .pre),
+    )
 
 pub put-refused-spec : {M : Type 1} → statement M
 put-refused-spec =

@@ -16,15 +16,16 @@ ask-requires c κs = search needs
 
 put-line-requires : tie.Need-put-line-requires
 put-line-requires c κs =
-    let b = c .before .before .before .before .before .before .before .before .before .before in
-    let a = b .before .before .before .before .before .before .args in
-    let t = b .before .before .before .before .before .before .pre .1 .0 in
-    let k = b .chosen-rows in
+    let s = c .before .before .before .before .before .before .before .before .before .before .before .before .before .before .before
+    .before in
+    let k = c .before .before .before .before .before .before .before .before .before .before .chosen-rows in
     let q = c .before .before .before .before .before .before .before .ask in
-    let h = shows-open (a .s) (a .labels .now) (a .entries .now) (a .set) (a .r .now) (a .z .now) (q .last .1 .1 .1 .1 .1 .0)
-    (q .last .1 .1 .1 .1 .1 .1 .0) (q .result) (k .result) (t .5) (k .ensures .0) (q .ensures) (c .before .before .if1 .taken) in
-    let w = shown-below (a .s) (a .labels .now) (a .entries .now) (a .set) true (q .last .1 .1 .1 .1 .1 .0) (t .2) (t .4) h in
-    ((t .0, w .0, t .9), w .1)
+    let h = shows-open (s .args .s) (s .args .labels .now) (s .args .entries .now) (s .args .set) (s .args .r .now) (s .args .z .now)
+    (q .last .1 .1 .1 .1 .1 .0) (q .last .1 .1 .1 .1 .1 .1 .0) (q .result) (k .result) (s .pre .1 .0 .5) (k .ensures .0) (q .ensures)
+    (c .before .before .if1 .taken) in
+    let w = shown-below (s .args .s) (s .args .labels .now) (s .args .entries .now) (s .args .set) true (q .last .1 .1 .1 .1 .1 .0)
+    (s .pre .1 .0 .2) (s .pre .1 .0 .4) h in
+    ((s .pre .1 .0 .0, w .0, s .pre .1 .0 .9), w .1)
 
 same-length : tie.Need-same-length
 same-length c = search needs
@@ -37,30 +38,31 @@ same-length-3 c = search needs
 
 returns : tie.Need-returns
 returns c =
-    let b = c .before .before .before .before .before .before .before .before .before .before .before .before .before in
-    let a = b .before .before .before .before .before .before .args in
-    let t = b .before .before .before .before .before .before .pre .1 .0 in
-    let k = b .chosen-rows in
+    let s = c .before .before .before .before .before .before .before .before .before .before .before .before .before .before .before
+    .before .before .before .before in
+    let k = c .before .before .before .before .before .before .before .before .before .before .before .before .before .chosen-rows in
     let q = c .before .before .before .before .before .before .before .before .before .before .ask in
-    let i = c .before .before .before .before .before .if1 .taken in
-    let h = shows-open (a .s) (a .labels .now) (a .entries .now) (a .set) (a .r .now) (a .z .now) (q .last .1 .1 .1 .1 .1 .0)
-    (q .last .1 .1 .1 .1 .1 .1 .0) (q .result) (k .result) (t .5) (k .ensures .0) (q .ensures) i in
+    let h = shows-open (s .args .s) (s .args .labels .now) (s .args .entries .now) (s .args .set) (s .args .r .now) (s .args .z .now)
+    (q .last .1 .1 .1 .1 .1 .0) (q .last .1 .1 .1 .1 .1 .1 .0) (q .result) (k .result) (s .pre .1 .0 .5) (k .ensures .0) (q .ensures)
+    (c .before .before .before .before .before .if1 .taken) in
     let p = c .before .before .put-line .ensures in (
-      line-put (a .s) (a .labels .now) (a .entries .now) (a .set) (a .out .now) (a .at) true (q .last .1 .1 .1 .1 .1 .0) h (p .0),
+      line-put (s .args .s) (s .args .labels .now) (s .args .entries .now) (s .args .set) (s .args .out .now) (s .args .at) true
+          (q .last .1 .1 .1 .1 .1 .0) h (p .0),
       p .1,
     )
 
 put-line-requires-2 : tie.Need-put-line-requires-2
 put-line-requires-2 c κs =
-    let b = c .before .before .before .before .before .before .before .before .before .before in
-    let a = b .before .before .before .before .before .before .args in
-    let t = b .before .before .before .before .before .before .pre .1 .0 in
-    let k = b .chosen-rows in
+    let s = c .before .before .before .before .before .before .before .before .before .before .before .before .before .before .before
+    .before in
+    let k = c .before .before .before .before .before .before .before .before .before .before .chosen-rows in
     let q = c .before .before .before .before .before .before .before .ask in
-    let h = shows-closed (a .s) (a .labels .now) (a .entries .now) (a .set) (a .r .now) (a .z .now) (q .last .1 .1 .1 .1 .1 .0)
-    (q .last .1 .1 .1 .1 .1 .1 .0) (q .result) (k .result) (t .5) (k .ensures .0) (q .ensures) (c .before .before .if1 .left) in
-    let w = shown-below (a .s) (a .labels .now) (a .entries .now) (a .set) false (q .last .1 .1 .1 .1 .1 .1 .0) (t .2) (t .4) h in
-    ((t .0, w .0, t .9), w .1)
+    let h = shows-closed (s .args .s) (s .args .labels .now) (s .args .entries .now) (s .args .set) (s .args .r .now) (s .args .z .now)
+    (q .last .1 .1 .1 .1 .1 .0) (q .last .1 .1 .1 .1 .1 .1 .0) (q .result) (k .result) (s .pre .1 .0 .5) (k .ensures .0) (q .ensures)
+    (c .before .before .if1 .left) in
+    let w = shown-below (s .args .s) (s .args .labels .now) (s .args .entries .now) (s .args .set) false (q .last .1 .1 .1 .1 .1 .1 .0)
+    (s .pre .1 .0 .2) (s .pre .1 .0 .4) h in
+    ((s .pre .1 .0 .0, w .0, s .pre .1 .0 .9), w .1)
 
 same-length-4 : tie.Need-same-length-4
 same-length-4 c = search needs
@@ -73,16 +75,16 @@ same-length-6 c = search needs
 
 returns-2 : tie.Need-returns-2
 returns-2 c =
-    let b = c .before .before .before .before .before .before .before .before .before .before .before .before .before in
-    let a = b .before .before .before .before .before .before .args in
-    let t = b .before .before .before .before .before .before .pre .1 .0 in
-    let k = b .chosen-rows in
+    let s = c .before .before .before .before .before .before .before .before .before .before .before .before .before .before .before
+    .before .before .before .before in
+    let k = c .before .before .before .before .before .before .before .before .before .before .before .before .before .chosen-rows in
     let q = c .before .before .before .before .before .before .before .before .before .before .ask in
-    let i = c .before .before .before .before .before .if1 .left in
-    let h = shows-closed (a .s) (a .labels .now) (a .entries .now) (a .set) (a .r .now) (a .z .now) (q .last .1 .1 .1 .1 .1 .0)
-    (q .last .1 .1 .1 .1 .1 .1 .0) (q .result) (k .result) (t .5) (k .ensures .0) (q .ensures) i in
+    let h = shows-closed (s .args .s) (s .args .labels .now) (s .args .entries .now) (s .args .set) (s .args .r .now) (s .args .z .now)
+    (q .last .1 .1 .1 .1 .1 .0) (q .last .1 .1 .1 .1 .1 .1 .0) (q .result) (k .result) (s .pre .1 .0 .5) (k .ensures .0) (q .ensures)
+    (c .before .before .before .before .before .if1 .left) in
     let p = c .before .before .put-line2 .ensures in (
-      line-put (a .s) (a .labels .now) (a .entries .now) (a .set) (a .out .now) (a .at) false (q .last .1 .1 .1 .1 .1 .1 .0) h (p .0),
+      line-put (s .args .s) (s .args .labels .now) (s .args .entries .now) (s .args .set) (s .args .out .now) (s .args .at) false
+          (q .last .1 .1 .1 .1 .1 .1 .0) h (p .0),
       p .1,
     )
 

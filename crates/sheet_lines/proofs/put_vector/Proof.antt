@@ -37,11 +37,13 @@ shared-slice-read-put-residue c = search needs
 
 put-residue-requires : tie.Need-put-residue-requires Inv-loop μ-loop
 put-residue-requires c κs =
-    let b = c .before .before .before .before .before .before .before in
-    let l = b .before .loop in
-    let q = b .before .before .before .before .pre in
-    let t = c .before .before .before .before .put-text in
-    (q .1 (l .i) (b .loop-test .taken), q .0 .0, omega (arith, l .inv .1, l .inv .2, t .ensures .0, t .kept .0))
+    let l = c .before .before .before .before .before .before .before .before .loop in
+    let t = c .before .before .before .before .put-text in (
+      c .before .before .before .before .before .before .before .before .before .before .before .pre .1 (l .i)
+          (c .before .before .before .before .before .before .before .loop-test .taken),
+      c .before .before .before .before .before .before .before .before .before .before .before .pre .0 .0,
+      omega (arith, l .inv .1, l .inv .2, t .ensures .0, t .kept .0),
+    )
 
 add-i : tie.Need-add-i Inv-loop μ-loop
 add-i c = search needs
@@ -51,15 +53,16 @@ loop-less c = search needs
 
 loop-again : tie.Need-loop-again Inv-loop μ-loop
 loop-again c =
-    let b = c .before .before .before .before .before .before .before .before .before .before in
-    let a = b .before .before .before .before .args in
-    let l = b .before .loop in
+    let a = c .before .before .before .before .before .before .before .before .before .before .before .before .before .before .args in
+    let l = c .before .before .before .before .before .before .before .before .before .before .before .loop in
     let t = c .before .before .before .before .before .before .before .put-text in
     let r = c .before .before .put-residue in (
       omega arith,
       omega (arith, l .inv .1, t .ensures .0, r .ensures .1),
       omega (arith, l .inv .2, t .kept .0, r .kept .0),
-      vector-turn (a .out .now) (a .at) (a .p) (a .vector .now) (l .i) (b .loop-test .taken) (l .inv .3) (t .ensures) (r .ensures .0),
+      vector-turn (a .out .now) (a .at) (a .p) (a .vector .now) (l .i)
+          (c .before .before .before .before .before .before .before .before .before .before .loop-test .taken) (l .inv .3) (t .ensures)
+          (r .ensures .0),
     )
 
 same-length : tie.Need-same-length Inv-loop μ-loop

@@ -18,10 +18,11 @@ same-length c = search needs
 
 returns : tie.Need-returns
 returns c =
-    let b = c .before .before .before .before .before in
-    let a = b .before .before .args in
-    let t = c .before .before .put-text .ensures in
-    (put-verdict-text (a .out .now) (a .at) (a .opens) true (b .if1 .taken) t, omega (arith, t .0))
+    let s = c .before .before .before .before .before .before .before .args in
+    let t = c .before .before .put-text .ensures in (
+      put-verdict-text (s .out .now) (s .at) (s .opens) true (c .before .before .before .before .before .if1 .taken) t,
+      omega (arith, t .0),
+    )
 
 slice-aggregate-put-text-2 : tie.Need-slice-aggregate-put-text-2
 slice-aggregate-put-text-2 c = search needs
@@ -34,10 +35,11 @@ same-length-2 c = search needs
 
 returns-2 : tie.Need-returns-2
 returns-2 c =
-    let b = c .before .before .before .before .before in
-    let a = b .before .before .args in
-    let t = c .before .before .put-text2 .ensures in
-    (put-verdict-text (a .out .now) (a .at) (a .opens) false (b .if1 .left) t, omega (arith, t .0))
+    let s = c .before .before .before .before .before .before .before .args in
+    let t = c .before .before .put-text2 .ensures in (
+      put-verdict-text (s .out .now) (s .at) (s .opens) false (c .before .before .before .before .before .if1 .left) t,
+      omega (arith, t .0),
+    )
 
 pub put-verdict-spec : {M : Type 1} → statement M
 put-verdict-spec =
