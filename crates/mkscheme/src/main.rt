@@ -9,7 +9,9 @@ use scheme::Outcome;
 use scheme::Shape;
 use sheets::Written;
 ghost use mathlib.Core.Path.{_≡_};
-ghost use lib.ListN.{length};
+ghost use Prim.Native.Nat.{_≤_, _*_};
+ghost use lib.ListN.{length, take};
+ghost use Rattle.scheme.specs.Refusal.{checkRefusal};
 
 const NEWLINE: u8 = 10;
 
@@ -48,7 +50,9 @@ fn print(out: &[u8], w: Written) {
 }
 
 // How many bytes the file of d rows has: a heading block and a block for each 20 rows.
-fn file_size(d: usize) -> usize {
+fn file_size(d: usize) -> usize
+    ensures { λ r. ⌜ r ≤ 1536 ⌝ }
+{
     if d <= 20 {
         return 1024;
     }
@@ -65,15 +69,24 @@ fn print_file(s: Shape, labels: &[u32], entries: &[u32], file: &mut [u8]) {
     }
 }
 
-fn make(p: u32, n: u32, text: &[u8], labels: &mut [u32], entries: &mut [u32], file: &mut [u8]) {
+// Prints the file of a scheme that was built: its labels and entries are the first of the places that it was built into.
+fn print_built(s: Shape, labels: &[u32], entries: &[u32], file: &mut [u8])
+    requires { ⌜ (length (now labels) ≡ 32) × (length (now entries) ≡ 384) × (length (now file) ≡ 1536) ⌝ }
+    requires { ⌜ checkRefusal s (take (s .d) (now labels)) (take (s .d * s .e) (now entries)) ≡ 0 ⌝ }
+{
+    let d = s.d;
+    let cells = d * s.e;
+    let size = file_size(d);
+    print_file(s, &labels[0..d], &entries[0..cells], &mut file[0..size]);
+}
+
+fn make(p: u32, n: u32, text: &[u8], labels: &mut [u32], entries: &mut [u32], file: &mut [u8])
+    requires { ⌜ (length (now labels) ≡ 32) × (length (now entries) ≡ 384) × (length (now file) ≡ 1536) ⌝ }
+{
     let made = rule::build(p, n, text, &mut *labels, &mut *entries);
     match made {
         Made::Refused(k) => say_refused(k),
-        Made::Scheme(s) => {
-            let size = file_size(s.d);
-            let cells = s.d * s.e;
-            print_file(s, &labels[0..s.d], &entries[0..cells], &mut file[0..size]);
-        }
+        Made::Scheme(s) => print_built(s, labels, entries, file),
     }
 }
 
