@@ -3,9 +3,10 @@
 use mathlib.Core.Path.{_≡_, refl, sym, ap, ap₂, _∙_, subst, subst⁻¹}
 use mathlib.Core.List.{List, [], _++_, append-assoc, append-nil}
 use mathlib.Core.Logic.{⊎-elim}
-use Prim.Native.Nat.{ℕ, zero, suc, _+_, _*_, _-_, _^_, _<_, _≤_, min}
+use Prim.Native.Nat.{ℕ, zero, suc, _+_, _*_, _-_, _/_, _^_, _<_, _≤_, min}
 use native.Mathlib.Omega.{arith}
-use lib.ListN.{length}
+use lib.ListN.{length, take, drop}
+use lib.Seq.{take-append-seam}
 use lib.Pow.{pow-mono}
 use Rattle.algebra.proofs.Cases.{lt-or-ge}
 use Rattle.scheme.specs.declared.Shape.{Shape}
@@ -15,6 +16,8 @@ use Rattle.sheet_lines.proofs.Settled.{lines-settled, lines-join, lines-not-emp
 use Rattle.sheet_lines.proofs.Computed.{linesOf, lines-are}
 use Rattle.sheets.specs.Sheet.{fileRefusal, shapeOf, labelsOf, entriesOf, SchemeSheet, SheetAt, IsSheet}
 use Rattle.sheets.specs.Sheet.{SchemePart, RefusedPart, PartAt, IsPart, together}
+use Rattle.sheets.specs.declared.Written.the-variants.{Bytes}
+use Rattle.sheets.specs.Says.{PrintSays, PartSays}
 use Rattle.sheets.proofs.Files.{file-valid}
 
 pub sheet-settled : (file t u : List ℕ) → IsSheet file t → IsSheet file u → t ≡ u
@@ -143,3 +146,23 @@ parts-end m file k text l = go (fileRefusal file) refl
 -- Part 65,537 is empty, however few lines a part has.
 pub last-part-empty : (m : ℕ) → 0 < m → (file text : List ℕ) → IsPart m file 65537 text → text ≡ []
 last-part-empty m l file text = parts-end m file 65536 text (omega arith)
+
+-- What a call says that it wrote is the part.
+pub part-taken : (file : List ℕ) (k : ℕ) (out : List ℕ) (size : ℕ) (out′ : List ℕ) → PartSays file k out (Bytes size) out′
+    → IsPart (length out / 256) file k (take size out′)
+unfolding PrintSays
+part-taken file k out size out′ x =
+    let text = x .1 .0 in
+    subst (IsPart (length out / 256) file k)
+    (sym (ap₂ take (x .1 .2) (x .1 .4) ∙ take-append-seam text (drop (length text) out))) (x .1 .1)
+
+-- From the calls to the sheet: who calls `part` for 0, 1, .. with lists of so many places until a call writes nothing, and keeps what each
+-- call says that it wrote, one after another, has the sheet.
+pub printed-sheet : (file : List ℕ) (places : ℕ) → 256 ≤ places → (out out′ : ℕ → List ℕ) (size : ℕ → ℕ) (k : ℕ)
+    → ((j : ℕ) → j ≤ k → (length (out j) ≡ places) × PartSays file j (out j) (Bytes (size j)) (out′ j))
+    → size k ≡ 0 → IsSheet file (together (λ j. take (size j) (out′ j)) k)
+printed-sheet file places l out out′ size k calls e =
+    first-parts-make-sheet (places / 256) (omega arith) file (λ j. take (size j) (out′ j)) k
+    (λ j u. subst (λ (n : ℕ). IsPart (n / 256) file j (take (size j) (out′ j))) (calls j u .0)
+    (part-taken file j (out j) (size j) (out′ j) (calls j u .1)))
+    (ap (λ (n : ℕ). take n (out′ k)) e)

@@ -49,7 +49,7 @@ module _ (refusal : ℕ) (Is : List ℕ → Type 0) (out : List ℕ) where
   unfolding PrintSays
   print-bytes h x room = (
     h,
-    (x .text, x .is, omega (arith, x .put .0), put-first out (x .text) (x .put) (omega (arith, x .put .0, room))),
+    (x .text, x .is, omega (arith, x .put .0), room, put-first out (x .text) (x .put) (omega (arith, x .put .0, room))),
   )
 
   pub print-refused : (k : ℕ) → k ≡ refusal → (k ≡ 0 → ⊥) → PrintSays refusal Is out (Refused k) out

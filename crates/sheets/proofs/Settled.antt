@@ -32,7 +32,7 @@ module _ (refusal : ℕ) (Is : List ℕ → Type 0) (out : List ℕ) (one : refu
   print-settled (Bytes m) (Bytes n) x y g h =
       let q = one (g .0) (g .1 .0) (h .1 .0) (g .1 .1) (h .1 .1) in (
         ap Bytes (g .1 .2 ∙ ap length q ∙ sym (h .1 .2)),
-        g .1 .3 ∙ ap (λ t. over t out) q ∙ sym (h .1 .3),
+        g .1 .4 ∙ ap (λ t. over t out) q ∙ sym (h .1 .4),
       )
   print-settled (Bytes m) (Refused k) x y g h = absurd (never-both k (g .0) (h .0) (h .1))
   print-settled (Refused k) (Bytes n) x y g h = absurd (never-both k (h .0) (g .0) (g .1))

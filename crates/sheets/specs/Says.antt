@@ -2,7 +2,7 @@
 -- Assumes nothing.
 use mathlib.Core.Path.{_≡_}
 use mathlib.Core.List.{List}
-use Prim.Native.Nat.{ℕ, _<_, _/_}
+use Prim.Native.Nat.{ℕ, _<_, _≤_, _/_}
 use lib.Dec.{eqb, leb}
 use lib.ListN.{length}
 use Rattle.scheme.specs.declared.Shape.{Shape}
@@ -16,10 +16,10 @@ use Rattle.sheets.specs.declared.Written.the-variants.{Bytes, Refused}
 use Rattle.sheets.specs.Sheet.{IsPart}
 
 -- A call that prints a text that `Is` holds of over the first places of a lent list: out before the call, out′ after it. It answers how many
--- bytes the text has; the places after them stay. Refused: the number, and the list stays.
+-- bytes the text has, no more than there are places; the places after them stay. Refused: the number, and the list stays.
 unfoldable pub PrintSays : ℕ → (List ℕ → Type 0) → List ℕ → Written → List ℕ → Type 0
 PrintSays refusal Is out (Bytes m) out′ =
-    (refusal ≡ 0) × ((text : List ℕ) × Is text × (m ≡ length text) × (out′ ≡ over text out))
+    (refusal ≡ 0) × ((text : List ℕ) × Is text × (m ≡ length text) × (m ≤ length out) × (out′ ≡ over text out))
 PrintSays refusal Is out (Refused k) out′ = (refusal ≡ k) × (0 < k) × (out′ ≡ out)
 
 -- The line of a set: 256 places for it.
