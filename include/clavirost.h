@@ -2,7 +2,8 @@
 
    Link with libclavirost.a (`rt staticlib clavirost` writes target/staticlib/libclavirost.a; x86-64 Linux). Every call is proved to answer as
    said here for all numbers and lists: there is nothing that a caller has to promise, but that each pointer points to as many places as the
-   length after it says, that lists lent for results overlap no other list, and that a number lent for a result is there.
+   length after it says (any pointer that is not NULL will do for a list of length 0), and that what is lent for a result overlaps nothing else
+   that is lent: no list, and no other number.
 
    A list is a pointer and a length. A scheme is p, n, d, e, its d labels and its d times e entries, row by row. A set is a number: participant i
    is in it when bit i - 1 is one.
@@ -23,7 +24,7 @@
      21  the card is in already                                                22  the card is not in
 
    Reading a file tries 5, 17, 18, 19, 1, 2, 3, 4, 20, 6, 7 in this order. No call allocates, keeps anything between calls, or reads the clock.
-   The stack that each needs, measured on the compiled library, stands at its end. */
+   The stack that each needs, measured on the compiled library (bench/stack), stands at the end of this file. */
 #ifndef CLAVIROST_H
 #define CLAVIROST_H
 
@@ -66,11 +67,12 @@ uint32_t clavirost_join(uint32_t p, uint32_t n, size_t d, size_t e, const uint32
                         uint32_t *code);
 
 /* Do the shares of two codes, multiplied place by place and weighted, give the product of the codes? CLAVIROST_YES, and r has the d weights; or
-   CLAVIROST_NO, and w has the e(e + 1)/2 numbers of the witness. Refusals 1 to 7. */
+   CLAVIROST_NO, and w has the e(e + 1)/2 numbers of the witness. The other list stays. Refusals 1 to 7. */
 uint32_t clavirost_product(uint32_t p, uint32_t n, size_t d, size_t e, const uint32_t *labels, size_t labels_length,
                            const uint32_t *entries, size_t entries_length, uint32_t *r, size_t r_length, uint32_t *w, size_t w_length);
 
-/* Is each set open exactly if it has at least t + 1 participants? CLAVIROST_YES; or CLAVIROST_NO, and the first set that breaks it. Refusals 1 to 7, 10. */
+/* Is each set open exactly if it has at least t + 1 participants? CLAVIROST_YES, and `set` stays; or CLAVIROST_NO, and `set` is the first set that
+   breaks it. Refusals 1 to 7, 10. */
 uint32_t clavirost_threshold(uint32_t p, uint32_t n, size_t d, size_t e, const uint32_t *labels, size_t labels_length,
                              const uint32_t *entries, size_t entries_length, uint32_t t, uint32_t *set);
 
@@ -89,23 +91,23 @@ uint32_t clavirost_read(const uint8_t *file, size_t file_length, uint32_t *label
                         size_t entries_length, uint32_t *p, uint32_t *n, size_t *d, size_t *e);
 
 /* The card panel. Its state is the scheme's four numbers, 32 places for labels, 384 for entries, the set of the cards that are in, and 32 places
-   for stored shares; the caller keeps it, and every call checks it like any other input. Refusals 1 to 9, and 21 or 22.
-   A fresh panel has the scheme, no card, and 0 in all other places. */
+   for stored shares; the caller keeps it, and every call checks it like any other input.
+   A fresh panel has the scheme, no card, and 0 in all other places. Refusals 1 to 7. */
 uint32_t clavirost_panel_new(uint32_t p, uint32_t n, size_t d, size_t e, const uint32_t *labels, size_t labels_length,
                              const uint32_t *entries, size_t entries_length, uint32_t *panel_labels, size_t panel_labels_length,
                              uint32_t *panel_entries, size_t panel_entries_length, uint32_t *cards, uint32_t *stored, size_t stored_length);
 
-/* Puts a participant's card in: one share for each of the participant's rows. 21 where it is in already. */
+/* Puts a participant's card in: one share for each of the participant's rows. Refusals 1 to 9; 21 where it is in already. */
 uint32_t clavirost_panel_put(uint32_t p, uint32_t n, size_t d, size_t e, const uint32_t *panel_labels, size_t panel_labels_length,
                              const uint32_t *panel_entries, size_t panel_entries_length, uint32_t *cards, uint32_t *stored,
                              size_t stored_length, uint32_t who, const uint32_t *shares, size_t shares_length);
 
-/* Takes a participant's card out. 22 where it is not in. */
+/* Takes a participant's card out. Refusals 1 to 9; 22 where it is not in. */
 uint32_t clavirost_panel_take(uint32_t p, uint32_t n, size_t d, size_t e, const uint32_t *panel_labels, size_t panel_labels_length,
                               const uint32_t *panel_entries, size_t panel_entries_length, uint32_t *cards, uint32_t *stored,
                               size_t stored_length, uint32_t who);
 
-/* The code of the cards now in it, as joining gives it: 11 where they are too few, 12 where no dealing gives their shares. */
+/* The code of the cards now in it, as joining gives it. Refusals 1 to 9; 11 where their set is closed, 12 where no dealing gives their shares. */
 uint32_t clavirost_panel_code(uint32_t p, uint32_t n, size_t d, size_t e, const uint32_t *panel_labels, size_t panel_labels_length,
                               const uint32_t *panel_entries, size_t panel_entries_length, uint32_t cards, const uint32_t *stored,
                               size_t stored_length, uint32_t *code);
@@ -114,8 +116,9 @@ uint32_t clavirost_panel_code(uint32_t p, uint32_t n, size_t d, size_t e, const 
 uint32_t clavirost_sheet_line(uint32_t p, uint32_t n, size_t d, size_t e, const uint32_t *labels, size_t labels_length,
                               const uint32_t *entries, size_t entries_length, uint32_t set, uint8_t *out, size_t out_length, size_t *size);
 
-/* Part k of the sheet of a file, in the first places; how many bytes it has. Part 0 is the heading, or the line REFUSED; each later part has
-   a line for each 256 places of `out`; the first part of size 0 comes after the last line. Refusal 5 for fewer than 256 places. */
+/* Part k of the sheet of a file, in the first places; how many bytes it has. Part 0 is the heading, or for a refused file the line REFUSED with
+   its number (the call then still answers 0); each later part has a line for each 256 places of `out`, the last one what is left, and the first
+   part of size 0 comes after the last line. Refusal 5 for fewer than 256 places. A longer list is a faster sheet: 262,144 places will do. */
 uint32_t clavirost_sheet_part(const uint8_t *file, size_t file_length, uint32_t k, uint8_t *out, size_t out_length, size_t *size);
 
 #ifdef __cplusplus

@@ -1,8 +1,8 @@
 """Checks a sheet by multiplying out: python3 tools/check_sheet.py SCHEME-FILE SHEET
 
-Trusts neither prover nor compiler. OPEN: the rows weighted by the vector add up to 1, 0, .., 0. CLOSED: the vector begins with 1 and each of
-the set's rows times it is 0, so that no combination of them is 1, 0, .., 0. It must also be the one vector that document 01 asks for, 0 at
-each row (column) that is a combination of earlier ones; so every changed digit is found."""
+Trusts neither prover nor compiler. OPEN: the set's rows weighted by the vector add up to 1, 0, .., 0. CLOSED: the vector begins with 1 and
+each of the set's rows times it is 0, so that no combination of them is 1, 0, .., 0. It must also be the one vector that document 01 asks for:
+0 at rows outside the set and at each row (column) that is a combination of earlier ones; so every changed digit is found."""
 
 import sys
 

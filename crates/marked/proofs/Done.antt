@@ -4,9 +4,10 @@
 use mathlib.Core.Path.{_≡_, refl, sym, ap, ap₂, _∙_, subst}
 use mathlib.Core.Bool.{true}
 use mathlib.Core.List.{List}
-use Prim.Native.Nat.{ℕ, _*_}
+use Prim.Native.Nat.{ℕ, _*_, _^_, _<_, _≤_}
+use native.Mathlib.Omega.{arith}
 use lib.ListN.{length}
-use borrow.Author.Tests.{eq-eqb}
+use borrow.Author.Tests.{eq-eqb, lt-ltb}
 use Rattle.scheme.specs.declared.Shape.{Shape}
 use Rattle.scheme.specs.declared.Outcome.the-variants.{Done}
 use Rattle.scheme.specs.declared.Made.the-variants.{Scheme}
@@ -25,10 +26,13 @@ use Rattle.format.specs.Format.{blocks, fileOf}
 use Rattle.format.specs.Writing.{writeRefusal}
 use Rattle.writing.specs.Says.{WriteSays}
 use Rattle.writing.proofs.Settled as Writing
-use Rattle.scheme.proofs.Refusals.{Valid, valid}
+use Rattle.scheme.specs.Tests.{unless}
+use Rattle.scheme.proofs.Refusals.{valid}
 use Rattle.sheet_lines.specs.Lines.{IsLine}
 use Rattle.sheet_lines.proofs.Computed.{lineOf, line-is}
-use Rattle.sheet_lines.proofs.Settled.{line-settled}
+use Rattle.sheets.specs.declared.Written.the-variants.{Bytes}
+use Rattle.sheets.specs.Says.{PrintSays, LineSays, lineRefusal}
+use Rattle.sheets.proofs.Settled.{line-says-settled}
 use Rattle.marked.specs.Only.{Deals, Writes, Builds, Prints}
 use Rattle.marked.proofs.Parts.{two, three}
 
@@ -80,12 +84,21 @@ builds p n text r free i fits l e ll le = record {
     says = Rule.says-scheme p n text l e (shapeOf p n r) (over (labelsOf (rows p r)) l) (over (entriesOf (rows p r)) e)
         (ap₂ (frontRefusal p n) ll le ∙ free) (r, i, fits, refl, refl, refl)
 
-pub prints : (s : Shape) (labels entries : List ℕ) (scheme : IsScheme s labels entries) (set : ℕ) (text : List ℕ)
-    → lineOf s labels entries (valid s labels entries true scheme) set ≡ text → Prints s labels entries set text
-prints s labels entries scheme set text e = record { holds = line; alone = λ y g. line-settled s labels entries v set y text g line }
+pub prints : (s : Shape) (labels entries : List ℕ) (scheme : IsScheme s labels entries) (set : ℕ) → set < 2 ^ s .n → (text : List ℕ)
+    → length text ≤ 256 → lineOf s labels entries (valid s labels entries true scheme) set ≡ text → Prints s labels entries set text
+unfolding PrintSays
+prints s labels entries scheme set inside text short e out l = record {
+  holds = says;
+  alone = λ y g.
+      let w = line-says-settled s labels entries set out (y .0) (Bytes (length text)) (y .1) (over text out) g says in two (w .0) (w .1);
+}
   where
-    v : Valid s labels entries
-    v = valid s labels entries true scheme
+    none : lineRefusal s labels entries set (length out) ≡ 0
+    none = ap₂ (λ b k. refusalOf s labels entries b k) (eq-eqb (length out) 256 l) (ap (λ b. unless b 8) (lt-ltb set (2 ^ s .n) inside))
+        ∙ scheme
 
     line : IsLine s labels entries set text
-    line = subst (IsLine s labels entries set) e (line-is s labels entries v set)
+    line = subst (IsLine s labels entries set) e (line-is s labels entries (valid s labels entries true scheme) set)
+
+    says : LineSays s labels entries set out (Bytes (length text)) (over text out)
+    says = (none, (text, line, refl, omega (arith, l, short), refl))

@@ -6,3 +6,4 @@ pub mod Joins
 pub mod Multiplied
 pub mod Thresholds
 pub mod Marked
+pub mod Sheet

@@ -146,7 +146,7 @@ unfolding refusalOf numbersRefusal contentRefusal each isIn readBelow sharesOf p
 marked = record {
   A = deals S labels entries 13 (10 ∷ 2 ∷ []) refl;
   B = opens S labels entries S-scheme 21 (4 ∷ 0 ∷ 3 ∷ 0 ∷ 11 ∷ []) (omega arith) refl;
-  B-sheet = prints S labels entries S-scheme 21 _ refl;
+  B-sheet = prints S labels entries S-scheme 21 (omega arith) _ (omega arith) refl;
   B-joined = joins-code S labels entries S-scheme 21 (8 ∷ 7 ∷ 10 ∷ 0 ∷ 11 ∷ []) refl
       (4 ∷ 0 ∷ 3 ∷ 0 ∷ 11 ∷ []) (13 ∷ 10 ∷ 2 ∷ []) refl refl;
   C = closes S labels entries S-scheme 5 (1 ∷ 10 ∷ 6 ∷ []) (omega arith) refl;

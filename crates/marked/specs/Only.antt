@@ -25,7 +25,9 @@ use Rattle.threshold.specs.declared.Verdict as Threshold
 use Rattle.threshold.specs.Says.{ThresholdSays}
 use Rattle.rule.specs.Says.{RuleSays}
 use Rattle.writing.specs.Says.{WriteSays}
-use Rattle.sheet_lines.specs.Lines.{IsLine}
+use Rattle.sheets.specs.declared.Written.{Written}
+use Rattle.sheets.specs.declared.Written.the-variants.{Bytes}
+use Rattle.sheets.specs.Says.{LineSays}
 
 -- P permits x and nothing else.
 pub record Only {A : Type 0} (P : A → Type 0) (x : A) : Type 0 where
@@ -73,9 +75,11 @@ module _ (s : Shape) (labels entries : List ℕ) where
       (file : List ℕ) → length file ≡ places
       → Only (λ (o : Outcome × List ℕ). WriteSays s labels entries file (o .0) (o .1)) (Done, written)
 
-  -- The set's line on the sheet is this text.
+  -- Printing the set's line into 256 places leaves this text.
   abbrev pub Prints : ℕ → List ℕ → Type 0
-  Prints set = Only (IsLine s labels entries set)
+  Prints set text =
+      (out : List ℕ) → length out ≡ 256
+      → Only (λ (o : Written × List ℕ). LineSays s labels entries set out (o .0) (o .1)) (Bytes (length text), over text out)
 
 -- The text is a rule, and building it gives this scheme, whose labels and entries stand in the first places of the lent lists.
 abbrev pub Builds : ℕ → ℕ → List ℕ → Shape → List ℕ → List ℕ → Type 0

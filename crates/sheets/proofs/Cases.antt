@@ -17,13 +17,13 @@ use Rattle.sheets.proofs.Files.{written-sheet}
 use Rattle.sheets.proofs.Parts.{sheet-settled}
 
 -- Rule `1&2`: rows (0, 1) and (1, 16).
-abbrev shape : Shape
+abbrev pub shape : Shape
 shape = record { p = 17; n = 2; d = 2; e = 2 }
 
-abbrev labels : List ℕ
+abbrev pub labels : List ℕ
 labels = 1 ∷ 2 ∷ []
 
-abbrev entries : List ℕ
+abbrev pub entries : List ℕ
 entries = 0 ∷ 1 ∷ 1 ∷ 16 ∷ []
 
 scheme : IsScheme shape labels entries
@@ -34,10 +34,10 @@ given : Valid shape labels entries
 given = valid shape labels entries true scheme
 
 -- `SCHEME 17 2 2 2`, `0 CLOSED 1 0`, `1 CLOSED 1 0`, `2 CLOSED 1 1`, `3 OPEN 1 1`
-abbrev heading : List ℕ
+abbrev pub heading : List ℕ
 heading = 83 ∷ 67 ∷ 72 ∷ 69 ∷ 77 ∷ 69 ∷ 32 ∷ 49 ∷ 55 ∷ 32 ∷ 50 ∷ 32 ∷ 50 ∷ 32 ∷ 50 ∷ 10 ∷ []
 
-abbrev lines : List ℕ
+abbrev pub lines : List ℕ
 lines =
     (48 ∷ 32 ∷ 67 ∷ 76 ∷ 79 ∷ 83 ∷ 69 ∷ 68 ∷ 32 ∷ 49 ∷ 32 ∷ 48 ∷ 10 ∷ [])
     ++ (49 ∷ 32 ∷ 67 ∷ 76 ∷ 79 ∷ 83 ∷ 69 ∷ 68 ∷ 32 ∷ 49 ∷ 32 ∷ 48 ∷ 10 ∷ [])
