@@ -37,4 +37,7 @@ def code():
     print("code refused: %d" % answer["refused"] if "refused" in answer else "code %d" % answer["secret"])
 
 
+print("panel with 31 places: %d" % second.answer({"op": "panel_new", **made, "stored_len": d - 1})["refused"])
+short = {**state, "stored": state["stored"][1:]}
+print("card into 31 places: %d" % second.answer({"op": "panel_put", **made, **short, "participant": 2, "shares": shares[1:2]})["refused"])
 code(), put(2), code(), put(2), put(3), code(), take(2), code(), take(2), put(1), code()

@@ -68,6 +68,11 @@ int main(void)
     ask("two paramedics", 6);
     if (clavirost_panel_new(P, N, d, e, labels, d, entries, d * e, panel_labels, CLAVIROST_LABELS, panel_entries, CLAVIROST_ENTRIES, &cards, stored,
                             CLAVIROST_STORED) != CLAVIROST_DONE) return 1;
+    /* One place too few for the shares: refused, and the panel stays. */
+    printf("panel with 31 places: %u\n", clavirost_panel_new(P, N, d, e, labels, d, entries, d * e, panel_labels, CLAVIROST_LABELS, panel_entries,
+                                                              CLAVIROST_ENTRIES, &cards, stored, CLAVIROST_STORED - 1));
+    printf("card into 31 places: %u\n", clavirost_panel_put(P, N, d, e, panel_labels, CLAVIROST_LABELS, panel_entries, CLAVIROST_ENTRIES, &cards, stored,
+                                                            CLAVIROST_STORED - 1, 2, shares + 1, 1));
     code();
     put(2, shares);
     code();
