@@ -9,20 +9,16 @@ ghost use lib.ListN.{length};
 
 const MODULUS: u32 = 65521;
 
-fn wide(x: u8) -> u32
-    ensures { λ r. ⌜ r < 256 ⌝ }
-{
+fn wide(x: u8) -> u32 {
     x as u32
 }
 
 // A check of bytes: each in turn is added to `by` times what was before.
-fn check_of(before: u32, by: u32, text: &[u8]) -> u32
-    requires { ⌜ by ≤ 257 ⌝ }
-{
-    let mut check = before % MODULUS;
+fn check_of(before: u32, by: u32, text: &[u8]) -> u32 {
+    let mut check = before;
     let mut i = 0;
     while i < text.len() {
-        check = (check * by + wide(text[i])) % MODULUS;
+        check = residue::mul_add(MODULUS, wide(text[i]), check, by);
         i += 1;
     }
     check
@@ -33,7 +29,7 @@ fn say(check: u32) {
     io::write_all(STDOUT_FILENO, b"\n");
 }
 
-// Prints the checks of a file's sheet.
+// Prints the checks of a file's sheet, once its first empty part was seen.
 fn print_checks(file: &[u8], out: &mut [u8]) {
     let mut first = 0;
     let mut second = 0;
@@ -41,17 +37,17 @@ fn print_checks(file: &[u8], out: &mut [u8]) {
     while k < sheet_out::PARTS {
         let n = sheet_out::part_size(file, k, &mut *out);
         if n == 0 {
-            break;
+            say(first);
+            say(second);
+            return;
         }
         if out.len() < n {
-            break;
+            return;
         }
         first = check_of(first, 31, &out[0..n]);
         second = check_of(second, 257, &out[0..n]);
         k += 1;
     }
-    say(first);
-    say(second);
 }
 
 fn answer(full: bool, file: &[u8]) {
@@ -63,7 +59,7 @@ fn answer(full: bool, file: &[u8]) {
     print_checks(file, &mut space);
 }
 
-// The number of four bytes, at most so much.
+// The number of four bytes, the lowest first.
 fn number(a: u8, b: u8, c: u8, d: u8) -> usize {
     (a as usize) + 256 * (b as usize) + 65536 * (c as usize) + 16777216 * (d as usize)
 }

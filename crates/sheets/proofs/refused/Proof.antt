@@ -15,7 +15,7 @@ returns : tie.Need-returns
 returns c =
     let a = c .before .before .args in
     print-refused _ (λ text. text ≡ refusedText (a .k)) (a .out .now) 5
-    (ap (λ b. unless b 5) (sym (ne-eqb (length (a .out .now)) 256 (c .if1 .taken)))) (λ q. omega arith)
+    (ap (λ b. unless b 5) (sym (ne-eqb (length (a .out .now)) 256 (λ q. omega (arith, q, c .if1 .taken))))) (λ q. omega arith)
 
 put-refused-requires : tie.Need-put-refused-requires
 put-refused-requires c κs = search needs
@@ -27,7 +27,7 @@ returns-2 : tie.Need-returns-2
 returns-2 c =
     let a = c .before .before .before .before .before .before .args in
     print-bytes _ (λ text. text ≡ refusedText (a .k)) (a .out .now)
-    (ap (λ b. unless b 5) (eq-eqb (length (a .out .now)) 256 (c .before .before .before .before .if1 .left)))
+    (ap (λ b. unless b 5) (eq-eqb (length (a .out .now)) 256 (omega (arith, c .before .before .before .before .if1 .left))))
     (put-is (a .out .now) (refusedText (a .k)) (c .before .before .put-refused .ensures .0)) (c .before .before .put-refused .ensures .1)
 
 pub refused-spec : {M : Type 1} → statement M
