@@ -1,0 +1,23 @@
+-- A table that can go on from any row it has gone through. No public contract cites this file.
+-- Assumes nothing.
+use mathlib.Core.Path.{_≡_}
+use mathlib.Core.Bool.{Bool}
+use mathlib.Core.List.{List}
+use Prim.Native.Nat.{ℕ, _<_, _≤_}
+use Rattle.linear.specs.Flat.{place}
+use Rattle.linear.specs.Rows.{OpeningVector}
+use Rattle.rows.specs.State.{Unmet}
+
+-- For each row up to `at`, counts has the number of lines that the table had before it: the table's first lines are still those, and the
+-- target has not turned up.
+pub record Marks (p f : ℕ) (E : ℕ → ℕ → ℕ) (chosen : ℕ → Bool) (at : ℕ) (counts : List ℕ) (t : List (List ℕ)) : Type 0 where
+  pub unmet : (k : ℕ) → k ≤ at → Unmet p f E chosen k (place counts k) t
+  pub rising : (j k : ℕ) → j ≤ k → k ≤ at → place counts j ≤ place counts k
+
+-- Two choices of rows agree below k.
+abbrev pub Agree : ℕ → (ℕ → Bool) → (ℕ → Bool) → Type 0
+Agree k chosen other = (j : ℕ) → j < k → chosen j ≡ other j
+
+-- The target turned up at row `at`: r opens every choice of rows that agrees with this one up to that row.
+abbrev pub Opens : (p d e : ℕ) → (ℕ → ℕ → ℕ) → (ℕ → Bool) → ℕ → List ℕ → Type 0
+Opens p d e E chosen at r = (other : ℕ → Bool) → Agree (Prim.Native.Nat.suc at) chosen other → OpeningVector p d e E other (place r)
