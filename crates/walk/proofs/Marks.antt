@@ -1,24 +1,25 @@
 -- What a turn of the walk over the rows does to the marks of a table, and what the row gives at which the target turns up.
 -- Assumes nothing.
 use mathlib.Core.Path.{_≡_, refl, sym, ap, _∙_, subst, subst⁻¹}
-use mathlib.Core.Bool.{Bool, true, false, _&&_}
-use mathlib.Core.List.{List}
+use mathlib.Core.Bool.{Bool, true, false, _&&_, true≢false}
+use mathlib.Core.List.{List, _++_}
 use mathlib.Core.Logic.{⊎-elim}
 use Prim.Native.Nat.{ℕ, zero, suc, _<_, _≤_, _+_, _-_}
 use native.Mathlib.Omega.{arith}
-use lib.Dec.{ltb}
-use lib.ListN.{length, getD, set, length-set}
-use lib.Seq.{getD-set-same, getD-set-other}
+use lib.Dec.{eqb, ltb}
+use lib.ListN.{length, getD, set, take, drop, length-set, length-append, length-drop}
+use lib.Seq.{getD-set-same, getD-set-other, take-at, length-take-le}
+use borrow.Author.Tests.{eqb-true, eq-eqb}
 use Rattle.algebra.proofs.Cases.{lt-or-ge}
 use Rattle.residue.specs.Prime.{Prime}
 use Rattle.linear.specs.Flat.{place, entry}
-use Rattle.linear.specs.Rows.{OpeningVector}
+use Rattle.linear.specs.Rows.{OpeningVector, Witness}
 use Rattle.lines.specs.Line.{Low}
-use Rattle.backward.specs.Solution.{Opened}
+use Rattle.backward.specs.Solution.{Opened, Killed}
 use Rattle.rows.specs.State.{Unmet, Next}
-use Rattle.rows.proofs.Turns.{Stored, store-room, opening-end}
+use Rattle.rows.proofs.Turns.{Stored, store-room, opening-end, witness-end}
 use Rattle.rows.proofs.Verdict.{unmet-next}
-use Rattle.walk.specs.Going.{Marks, Agree, Opens, Walked}
+use Rattle.walk.specs.Going.{Marks, Agree, Opens, Walked, Kills}
 use Rattle.walk.proofs.Same.{unmet-same, unmet-set}
 
 module _ (p f : ℕ) (E : ℕ → ℕ → ℕ) where
@@ -105,3 +106,47 @@ module _ (p e f d : ℕ) (E : List ℕ) (chosen : ℕ → Bool) (q : e ≡ suc f
       (opening-end p e f d E other q k s t
       (unmet-same p f (entry e E) chosen other k s t (λ j l. agree j (omega arith)) unmet-here .state) v H
       (subst (λ (b : Bool). Next p e k s (ltb s e && b) E t v) (agree k (omega arith)) nx) z r r′ n o)
+
+-- A number of lines after a row fits.
+pub stored-fits : (e s : ℕ) (v : List ℕ) (t : List (List ℕ)) (s′ : ℕ) (t′ : List (List ℕ)) → Stored e s v t s′ t′ → s′ ≤ s + 1
+stored-fits e s v t s′ t′ so = ⊎-elim
+    (λ (a : getD v 25 0 < e). omega (arith, so .0 a .0))
+    (λ (a : e ≤ getD v 25 0). omega (arith, so .1 a .0))
+    (lt-or-ge (getD v 25 0) e)
+
+-- The first e of the numbers of an array of 32.
+pub part-length : (e : ℕ) (own : List ℕ) → length own ≡ 32 → e ≤ 32 → length (take (e - 0) own) ≡ e
+part-length e own n l = let q : e - 0 ≡ e = omega arith in rw q (length-take-le e own (omega arith))
+
+-- A part that came back: the rest of the list is as it was.
+pub part-whole : (e : ℕ) (own z : List ℕ) → length own ≡ 32 → e ≤ 32 → length z ≡ e → length (z ++ drop (e - 0) own) ≡ 32
+part-whole e own z n l lz = let q : e - 0 ≡ e = omega arith in rw q (simp (length-append, length-drop) (omega arith))
+
+pub kills-row : (p e lines : ℕ) (t : List (List ℕ)) (y z rest : List ℕ) → Prime p → 1 ≤ e → ((i : ℕ) → getD y i 0 < p) → getD y (e - 1) 0 ≡ 1
+    → Killed p lines t (e - 1) 0 y → length z ≡ e → length (z ++ rest) ≡ 32 → getD z 0 0 ≡ getD y (e - 1) 0
+    → ((i : ℕ) → i < e - 1 → getD z (1 + i) 0 ≡ getD y i 0) → Kills p e lines t (z ++ rest)
+kills-row p e lines t y z rest H l small one kills n whole z0 zs = record {
+  len = whole;
+  is = λ d m chosen u. subst⁻¹ (λ (l : List ℕ). Witness p d e (entry e m) chosen (place l)) (take-at z rest e n)
+      (subst⁻¹ (λ (e′ : ℕ). Witness p d e′ (entry e m) chosen (place z)) q
+      (witness-end p e (e - 1) d m chosen q lines t (u .state) H y z small one kills z0 zs));
+}
+  where
+    q : e ≡ suc (e - 1)
+    q = omega arith
+
+-- The test of a line's pivot, where it holds and where it fails.
+pub it-is-here : {here : Bool} {x y : ℕ} → here ≡ eqb x y → here ≡ true → x ≡ y
+it-is-here {here} {x} {y} e h = eqb-true x y (sym e ∙ h)
+
+pub it-is-not-here : {here : Bool} {x y : ℕ} → here ≡ eqb x y → here ≡ false → x ≡ y → ⊥
+it-is-not-here {here} {x} {y} e h q = true≢false (sym (eq-eqb x y q) ∙ sym e ∙ h)
+
+-- All rows gone through.
+pub walked-end : (p d e : ℕ) (E : ℕ → ℕ → ℕ) (chosen : ℕ → Bool) (k : ℕ) (counts : List ℕ) (t : List (List ℕ)) (r : List ℕ) → k ≡ d
+    → Marks p (e - 1) E chosen k counts t → Walked p d e E chosen d counts t r
+walked-end p d e E chosen k counts t r q m = record {
+  within = omega arith;
+  marks = subst (λ (k : ℕ). Marks p (e - 1) E chosen k counts t) q m;
+  opens = λ l. absurd (omega arith);
+}

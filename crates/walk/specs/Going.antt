@@ -4,9 +4,9 @@ use mathlib.Core.Path.{_≡_}
 use mathlib.Core.Bool.{Bool}
 use mathlib.Core.List.{List}
 use Prim.Native.Nat.{ℕ, suc, _<_, _≤_, _-_}
-use lib.ListN.{length}
-use Rattle.linear.specs.Flat.{place}
-use Rattle.linear.specs.Rows.{OpeningVector}
+use lib.ListN.{length, take}
+use Rattle.linear.specs.Flat.{place, entry}
+use Rattle.linear.specs.Rows.{OpeningVector, Witness}
 use Rattle.rows.specs.State.{Unmet}
 
 -- For each row up to `at`, counts has the number of lines that the table had before it: the table's first lines are still those, and the
@@ -31,3 +31,9 @@ pub record Walked (p d e : ℕ) (E : ℕ → ℕ → ℕ) (chosen : ℕ → Bool
   pub within : at ≤ d
   pub marks : Marks p (e - 1) E chosen at counts t
   pub opens : at < d → Opens p d e E chosen at r
+
+-- The first e numbers of the row are the witness of every choice of rows that has these lines when all are gone through.
+pub record Kills (p e lines : ℕ) (t : List (List ℕ)) (row : List ℕ) : Type 0 where
+  pub len : length row ≡ 32
+  pub is : (d : ℕ) (m : List ℕ) (chosen : ℕ → Bool) → Unmet p (e - 1) (entry e m) chosen d lines t
+      → Witness p d e (entry e m) chosen (place (take e row))

@@ -4,17 +4,15 @@
 use scheme::Shape;
 ghost use mathlib.Core.Path.{_≡_};
 ghost use mathlib.Core.List.{[]};
-ghost use Prim.Native.Nat.{ℕ, _<_, _≤_, _+_, _*_, _-_, _^_};
+ghost use Prim.Native.Nat.{ℕ, _<_, _≤_, _+_, _*_, _-_};
 ghost use lib.Dec.{eqb};
 ghost use lib.ListN.{length, getD, take};
 ghost use Rattle.residue.specs.Prime.{Prime};
 ghost use Rattle.linear.specs.Bits.{bit};
 ghost use Rattle.linear.specs.Flat.{entry};
-ghost use Rattle.linear.specs.Rows.{Witness};
-ghost use Rattle.lines.specs.Line.{Ratio};
-ghost use Rattle.rows.specs.State.{Unmet};
-ghost use Rattle.walk.specs.Going.{Marks, Agree, Opens};
-ghost use Rattle.walk.specs.Answers.{Kept};
+ghost use Rattle.lines.specs.Line.{Lows, Ratio, at};
+ghost use Rattle.walk.specs.Going.{Marks, Agree, Walked, Kills};
+ghost use Rattle.walk.specs.Answers.{Places, Kept};
 
 // How many rows from the first on the two choices have alike, of the first `most`.
 fn alike(a: u32, b: u32, most: usize) -> usize
@@ -23,7 +21,9 @@ fn alike(a: u32, b: u32, most: usize) -> usize
 {
     let mut k = 0;
     while k < most {
-        if (a >> k) % 2 != (b >> k) % 2 {
+        let x = (a >> k) % 2;
+        let y = (b >> k) % 2;
+        if x != y {
             return k;
         }
         k += 1;
@@ -31,3 +31,134 @@ fn alike(a: u32, b: u32, most: usize) -> usize
     most
 }
 
+// Whether the line's pivot is at the last place: then the line is the target.
+fn is_target(e: usize, v: &[u32; 27]) -> bool
+    requires { ⌜ getD (now v) 25 0 ≤ 12 ⌝ }
+    ensures { λ r. ⌜ r ≡ eqb (getD (now (v .entry)) 25 0 + 1) e ⌝ }
+{
+    let c = v[25];
+    (c as usize) + 1 == e
+}
+
+// Goes through the rows from `from` on until one gives the target: that row, with r; or d.
+fn go_on(
+    p: u32,
+    inv: u64,
+    d: usize,
+    e: usize,
+    chosen: u32,
+    from: usize,
+    entries: &[u32],
+    t: &mut [[u32; 27]; 12],
+    counts: &mut [u32; 33],
+    r: &mut [u32],
+) -> usize
+    requires { ⌜ Prime p ⌝ }
+    requires { ⌜ (d ≤ 32) × (1 ≤ e) × (e ≤ 12) × (length (now entries) ≡ d * e) × (from ≤ d) × (length (now r) ≡ d) ⌝ }
+    requires { ⌜ ((i : ℕ) → getD (now entries) i 0 < p) ⌝ }
+    requires { ⌜ Ratio p inv ⌝ }
+    requires { ⌜ Marks p (e - 1) (entry e (now entries)) (bit chosen) from (now counts) (now t) ⌝ }
+    ensures { λ at. ⌜ Walked p d e (entry e (now (entries .entry))) (bit chosen) at
+        (now (counts .exit)) (now (t .exit)) (now (r .exit)) ⌝ }
+{
+    let first = counts[from];
+    let mut s = first as usize;
+    let mut k = from;
+    while k < d {
+        let v = rows::next_line(p, inv, e, chosen, k, s, entries, t);
+        if is_target(e, &v) {
+            backward::opening(p, inv, s, k, &v, t, r);
+            return k;
+        }
+        s = rows::store(e, s, v, t);
+        k += 1;
+        counts[k] = s as u32;
+    }
+    d
+}
+
+// From one choice of rows to another: where they are alike up to the row that gave the target, r is the answer again.
+fn step(
+    p: u32,
+    inv: u64,
+    d: usize,
+    e: usize,
+    last: u32,
+    chosen: u32,
+    row: usize,
+    entries: &[u32],
+    t: &mut [[u32; 27]; 12],
+    counts: &mut [u32; 33],
+    r: &mut [u32],
+) -> usize
+    requires { ⌜ Prime p ⌝ }
+    requires { ⌜ (d ≤ 32) × (1 ≤ e) × (e ≤ 12) × (length (now entries) ≡ d * e) × (length (now r) ≡ d) ⌝ }
+    requires { ⌜ ((i : ℕ) → getD (now entries) i 0 < p) ⌝ }
+    requires { ⌜ Ratio p inv ⌝ }
+    requires { ⌜ Walked p d e (entry e (now entries)) (bit last) row (now counts) (now t) (now r) ⌝ }
+    ensures { λ at. ⌜ Walked p d e (entry e (now (entries .entry))) (bit chosen) at
+        (now (counts .exit)) (now (t .exit)) (now (r .exit)) ⌝ }
+{
+    let most = least(row + 1, d);
+    let k = alike(last, chosen, most);
+    if row < k {
+        return row;
+    }
+    go_on(p, inv, d, e, chosen, k, entries, t, counts, r)
+}
+
+fn least(a: usize, b: usize) -> usize
+    ensures { λ r. ⌜ (r ≤ a) × (r ≤ b) ⌝ }
+{
+    if a < b {
+        return a;
+    }
+    b
+}
+
+// The witness, in the document's order, of a table that has gone through all rows.
+fn witness_row(p: u32, inv: u64, e: usize, lines: usize, t: &[[u32; 27]; 12]) -> [u32; 32]
+    requires { ⌜ Prime p ⌝ }
+    requires { ⌜ (1 ≤ e) × (e ≤ 12) × (lines ≤ 12) ⌝ }
+    requires { ⌜ Ratio p inv ⌝ }
+    requires { ⌜ Lows p (now t) ⌝ }
+    requires { ⌜ ((j : ℕ) → j < lines → at (now t) j 25 < e - 1) ⌝ }
+    ensures { λ r. ⌜ Kills p e lines (now (t .entry)) r ⌝ }
+{
+    let y = backward::killing(p, inv, e, lines, t);
+    let mut own = numbers();
+    rows::unload(&y, &mut own[0..e]);
+    own
+}
+
+fn numbers() -> [u32; 32]
+    ensures { λ r. ⌜ length r ≡ 32 ⌝ }
+{
+    [0u32; 32]
+}
+
+fn no_counts() -> [u32; 33]
+    ensures { λ r. ⌜ (length r ≡ 33) × (getD r 0 0 ≡ 0) ⌝ }
+{
+    [0u32; 33]
+}
+
+// The place that is the i-th to be asked: where their number is a power of two its bits turned round, so that participants whose rows come
+// early change seldom.
+fn turned(i: u32, count: u32) -> u32
+    requires { ⌜ (i < count) × (count ≤ 1024) ⌝ }
+    ensures { λ x. ⌜ x < count ⌝ }
+{
+    let mut x: u32 = 0;
+    let mut left = i;
+    let mut end: u32 = 1;
+    while end < count {
+        x = x * 2 + left % 2;
+        left /= 2;
+        end *= 2;
+    }
+    if x < count {
+        return x;
+    }
+    i
+}
