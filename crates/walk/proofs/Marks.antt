@@ -150,3 +150,12 @@ walked-end p d e E chosen k counts t r q m = record {
   marks = subst (λ (k : ℕ). Marks p (e - 1) E chosen k counts t) q m;
   opens = λ l. absurd (omega arith);
 }
+
+-- Where another choice agrees up to and with the row that gave the target, the walk over it ends there too.
+pub walked-again : (p d e : ℕ) (E : ℕ → ℕ → ℕ) (chosen other : ℕ → Bool) (row k : ℕ) (counts : List ℕ) (t : List (List ℕ)) (r : List ℕ)
+    → row < k → Agree k chosen other → Walked p d e E chosen row counts t r → Walked p d e E other row counts t r
+walked-again p d e E chosen other row k counts t r l agree w = record {
+  within = w .within;
+  marks = marks-agree p (e - 1) E chosen other row row counts t (λ j lj. agree j (omega arith)) (omega arith) (w .marks);
+  opens = λ ld third more. w .opens ld third (λ j lj. agree j (omega arith) ∙ more j lj);
+}

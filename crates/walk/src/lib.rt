@@ -99,21 +99,11 @@ fn step(
     ensures { λ at. ⌜ Walked p d e (entry e (now (entries .entry))) (bit chosen) at
         (now (counts .exit)) (now (t .exit)) (now (r .exit)) ⌝ }
 {
-    let most = least(row + 1, d);
-    let k = alike(last, chosen, most);
+    let k = alike(last, chosen, d);
     if row < k {
         return row;
     }
     go_on(p, inv, d, e, chosen, k, entries, t, counts, r)
-}
-
-fn least(a: usize, b: usize) -> usize
-    ensures { λ r. ⌜ (r ≤ a) × (r ≤ b) ⌝ }
-{
-    if a < b {
-        return a;
-    }
-    b
 }
 
 // The witness, in the document's order, of a table that has gone through all rows.
