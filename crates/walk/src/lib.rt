@@ -152,3 +152,88 @@ fn turned(i: u32, count: u32) -> u32
     }
     i
 }
+
+// What is kept of a set: r, or the witness where all rows are gone through.
+fn answer(
+    p: u32,
+    inv: u64,
+    d: usize,
+    e: usize,
+    row: usize,
+    lines: usize,
+    t: &[[u32; 27]; 12],
+    r: [u32; 32],
+) -> [u32; 32]
+    requires { ⌜ Prime p ⌝ }
+    requires { ⌜ (1 ≤ e) × (e ≤ 12) ⌝ }
+    requires { ⌜ Ratio p inv ⌝ }
+    requires { ⌜ Lows p (now t) ⌝ }
+    requires { ⌜ (d ≤ row → (lines ≤ 12) × ((j : ℕ) → j < lines → at (now t) j 25 < e - 1)) ⌝ }
+    ensures open { λ own. ⌜ (row < d → own ≡ r) ⌝ }
+    ensures closed { λ own. ⌜ (d ≤ row → Kills p e lines (now (t .entry)) own) ⌝ }
+{
+    if row < d {
+        return r;
+    }
+    witness_row(p, inv, e, lines, t)
+}
+
+fn kind(d: usize, row: usize) -> u8
+    ensures { λ k. ⌜ (row < d → k ≡ 1) × (d ≤ row → k ≡ 2) ⌝ }
+{
+    if row < d {
+        return 1;
+    }
+    2
+}
+
+fn clear(kinds: &mut [u8; 1024])
+    requires { ⌜ length (now kinds) ≡ 1024 ⌝ }
+    ensures { λ _. ⌜ (length (now (kinds .exit)) ≡ 1024) × ((x : ℕ) → x < 1024 → getD (now (kinds .exit)) x 0 ≡ 0) ⌝ }
+{
+    let mut x = 0;
+    while x < 1024 {
+        kinds[x] = 0;
+        x += 1;
+    }
+}
+
+// The sets from `base` on, `count` of them, asked in turn: kinds and slots are filled with their answers.
+pub fn fill(
+    s: Shape,
+    labels: &[u32],
+    entries: &[u32],
+    base: u32,
+    count: u32,
+    kinds: &mut [u8; 1024],
+    slots: &mut [[u32; 32]; 1024],
+)
+    requires { ⌜ Prime (s .p) ⌝ }
+    requires { ⌜ (s .n ≤ 16) × (s .d ≤ 32) × (1 ≤ s .e) × (s .e ≤ 12) × (length (now labels) ≡ s .d)
+        × (length (now entries) ≡ s .d * s .e) × (base + count ≤ 65536) × (count ≤ 1024) ⌝ }
+    requires { ⌜ ((k : ℕ) → k < s .d → (1 ≤ getD (now labels) k 0) × (getD (now labels) k 0 ≤ s .n)) ⌝ }
+    requires { ⌜ ((i : ℕ) → getD (now entries) i 0 < s .p) ⌝ }
+    requires { ⌜ Places (now kinds) (now slots) ⌝ }
+    ensures { λ _. ⌜ Kept s (now (labels .entry)) (now (entries .entry)) base (now (kinds .exit)) (now (slots .exit)) ⌝ }
+{
+    clear(kinds);
+    let inv = residue::ratio(s.p);
+    let d = s.d;
+    let mut t = rows::blank();
+    let mut counts = no_counts();
+    let mut r = numbers();
+    let mut last: u32 = 0;
+    let mut row = go_on(s.p, inv, d, s.e, last, 0, entries, &mut t, &mut counts, &mut r[0..d]);
+    let mut i: u32 = 0;
+    while i < count {
+        let x = turned(i, count);
+        let chosen = sets::chosen_rows(base + x, labels);
+        row = step(s.p, inv, d, s.e, last, chosen, row, entries, &mut t, &mut counts, &mut r[0..d]);
+        last = chosen;
+        let lines = counts[d];
+        let own = answer(s.p, inv, d, s.e, row, lines as usize, &t, r);
+        slots[x as usize] = own;
+        kinds[x as usize] = kind(d, row);
+        i += 1;
+    }
+}
