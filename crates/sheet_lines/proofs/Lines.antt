@@ -18,12 +18,6 @@ use Rattle.digits.proofs.Puts.{put-none, put-put}
 use Rattle.sheet_lines.specs.Texts.{setText}
 use Rattle.sheet_lines.specs.Lines.{Shows, IsLine, IsLines}
 
--- The participants of the rows are 16 at most.
-pub labels-right : (s : Shape) (labels : List ℕ) → s .n ≤ 16 → s .d ≤ 32 → length labels ≡ s .d
-    → ((k : ℕ) → k < s .d → (1 ≤ getD labels k 0) × (getD labels k 0 ≤ s .n))
-    → (length labels ≤ 32) × ((k : ℕ) → k < length labels → (1 ≤ getD labels k 0) × (getD labels k 0 ≤ 16))
-labels-right s labels n d e h = (omega arith, λ k l. let w = h k (omega arith) in (w .0, omega (arith, w .1)))
-
 module _ (s : Shape) (labels entries : List ℕ) (set : ℕ) where
   -- What the question of the set's rows hands out is what the line shows.
   module _ (r z r′ z′ : List ℕ) (a : Answer) (chosen : ℕ) (long : length labels ≡ s .d)

@@ -25,7 +25,11 @@ use Rattle.walk.proofs.Same.{unmet-same, unmet-set}
 module _ (p f : ℕ) (E : ℕ → ℕ → ℕ) where
   pub marks-start : (chosen : ℕ → Bool) (counts : List ℕ) (t : List (List ℕ)) → length counts ≡ 33 → place counts 0 ≡ 0
       → Unmet p f E chosen 0 0 t → Marks p f E chosen 0 counts t
-  marks-start chosen counts t n z u = record { len = n; unmet = first; rising = λ j k l lk. let q : j ≡ k = omega arith in rw q (omega arith) }
+  marks-start chosen counts t n z u = record {
+    len = n;
+    unmet = first;
+    rising = λ j k l lk. let q : j ≡ k = omega arith in rw q (omega arith);
+  }
     where
       first : (k : ℕ) → k ≤ 0 → Unmet p f E chosen k (place counts k) t
       first zero l = subst⁻¹ (λ (s : ℕ). Unmet p f E chosen 0 s t) z u
@@ -54,9 +58,11 @@ module _ (p f : ℕ) (E : ℕ → ℕ → ℕ) where
         (subst⁻¹ (λ (s : ℕ). Unmet p f E chosen (k + 1) s t′) new u))
         (lt-or-ge j (k + 1));
     rising = λ i j li lj. ⊎-elim
-        (λ (a : j < k + 1). let x = old i (omega arith) in let y = old j (omega arith) in let z = m .rising i j li (omega arith) in omega arith)
+        (λ (a : j < k + 1). let x = old i (omega arith) in let y = old j (omega arith) in let z = m .rising i j li (omega arith) in omega
+        arith)
         (λ (a : k + 1 ≤ j). ⊎-elim
-        (λ (b : i < k + 1). let q : j ≡ k + 1 = omega arith in subst⁻¹ (λ (j : ℕ). place (set counts (k + 1) s′) i ≤ place (set counts (k + 1) s′) j) q
+        (λ (b : i < k + 1). let q : j ≡ k + 1 = omega arith in subst⁻¹ (λ (j : ℕ). place (set counts (k + 1) s′) i ≤ place (set counts (k
+        + 1) s′) j) q
         (let x = old i (omega arith) in let z = m .rising i k (omega arith) (omega arith) in let w = new in omega arith))
         (λ (b : k + 1 ≤ i). let q : i ≡ j = omega arith in rw q (omega arith))
         (lt-or-ge i (k + 1)))
@@ -122,7 +128,8 @@ part-length e own n l = let q : e - 0 ≡ e = omega arith in rw q (length-take-l
 pub part-whole : (e : ℕ) (own z : List ℕ) → length own ≡ 32 → e ≤ 32 → length z ≡ e → length (z ++ drop (e - 0) own) ≡ 32
 part-whole e own z n l lz = let q : e - 0 ≡ e = omega arith in rw q (simp (length-append, length-drop) (omega arith))
 
-pub kills-row : (p e lines : ℕ) (t : List (List ℕ)) (y z rest : List ℕ) → Prime p → 1 ≤ e → ((i : ℕ) → getD y i 0 < p) → getD y (e - 1) 0 ≡ 1
+pub kills-row : (p e lines : ℕ) (t : List (List ℕ)) (y z rest : List ℕ) → Prime p → 1 ≤ e → ((i : ℕ) → getD y i 0 < p) → getD y (e - 1) 0
+    ≡ 1
     → Killed p lines t (e - 1) 0 y → length z ≡ e → length (z ++ rest) ≡ 32 → getD z 0 0 ≡ getD y (e - 1) 0
     → ((i : ℕ) → i < e - 1 → getD z (1 + i) 0 ≡ getD y i 0) → Kills p e lines t (z ++ rest)
 kills-row p e lines t y z rest H l small one kills n whole z0 zs = record {

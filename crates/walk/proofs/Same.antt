@@ -1,5 +1,4 @@
--- The lines of the first rows depend on nothing else: a basis of other rows that are the same so far, and of other lines that are the same
--- so far.
+-- The lines of the first rows depend on nothing else: a basis stays one for other rows, and for other lines, that are the same so far.
 -- Assumes nothing.
 use mathlib.Core.Path.{_≡_, refl, sym, ap, ap₂, _∙_}
 use mathlib.Core.Bool.{Bool, true, false, cond, true≢false}

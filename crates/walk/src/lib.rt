@@ -133,8 +133,8 @@ fn no_counts() -> [u32; 33]
     [0u32; 33]
 }
 
-// The place that is the i-th to be asked: where their number is a power of two its bits turned round, so that participants whose rows come
-// early change seldom.
+// The place that is the i-th to be asked: where their number is a power of two its bits turned round, so that participants whose rows
+// come early change seldom.
 fn turned(i: u32, count: u32) -> u32
     requires { ⌜ (i < count) × (count ≤ 1024) ⌝ }
     ensures { λ x. ⌜ x < count ⌝ }
@@ -160,7 +160,7 @@ fn answer(
     d: usize,
     e: usize,
     row: usize,
-    lines: usize,
+    lines: u32,
     t: &[[u32; 27]; 12],
     r: [u32; 32],
 ) -> [u32; 32]
@@ -175,7 +175,7 @@ fn answer(
     if row < d {
         return r;
     }
-    witness_row(p, inv, e, lines, t)
+    witness_row(p, inv, e, lines as usize, t)
 }
 
 fn kind(d: usize, row: usize) -> u8
@@ -223,15 +223,38 @@ pub fn fill(
     let mut counts = no_counts();
     let mut r = numbers();
     let mut last: u32 = 0;
-    let mut row = go_on(s.p, inv, d, s.e, last, 0, entries, &mut t, &mut counts, &mut r[0..d]);
+    let mut row = go_on(
+        s.p,
+        inv,
+        d,
+        s.e,
+        last,
+        0,
+        entries,
+        &mut t,
+        &mut counts,
+        &mut r[0..d],
+    );
     let mut i: u32 = 0;
     while i < count {
         let x = turned(i, count);
         let chosen = sets::chosen_rows(base + x, labels);
-        row = step(s.p, inv, d, s.e, last, chosen, row, entries, &mut t, &mut counts, &mut r[0..d]);
+        row = step(
+            s.p,
+            inv,
+            d,
+            s.e,
+            last,
+            chosen,
+            row,
+            entries,
+            &mut t,
+            &mut counts,
+            &mut r[0..d],
+        );
         last = chosen;
         let lines = counts[d];
-        let own = answer(s.p, inv, d, s.e, row, lines as usize, &t, r);
+        let own = answer(s.p, inv, d, s.e, row, lines, &t, r);
         slots[x as usize] = own;
         kinds[x as usize] = kind(d, row);
         i += 1;

@@ -1,12 +1,12 @@
-use Rattle.lists.proofs.Fill.{Filled, fill-start, fill-turn, filled}
-use Prim.Native.Nat.{_-_}
+-- `walk::clear` meets its contract: the first x places are 0.
+-- Assumes nothing.
 use mathlib.Core.Path.{refl, _∙_}
-use borrow.Author.Needs.{needs}
+use Prim.Native.Nat.{_-_}
 use native.Mathlib.Omega.{arith}
+use borrow.Author.Needs.{needs}
+use Rattle.lists.proofs.Fill.{Filled, fill-start, fill-turn, filled}
 use Rattle.walk.proofs.clear.Statement.{statement}
 use Rattle.walk.proofs.clear.Tie as tie
-use Rattle.walk.proofs.clear.Reads as reads
-use Rattle.walk.proofs.clear.Lts as lts
 
 abbrev Inv-loop : tie.InvT-loop
 Inv-loop kinds₀ x₀ kinds x = Filled 0 1024 (λ k. 0) kinds₀ kinds x
@@ -14,30 +14,25 @@ Inv-loop kinds₀ x₀ kinds x = Filled 0 1024 (λ k. 0) kinds₀ kinds x
 abbrev μ-loop : tie.MeasureT-loop
 μ-loop kinds₀ x₀ kinds x = 1024 - x
 
--- src/lib.rt:195:5
 loop-holds : tie.Need-loop-holds Inv-loop μ-loop
 loop-holds c = fill-start 0 1024 (λ k. 0) (c .args .kinds .now)
 
--- src/lib.rt:196:9
 element-write-kinds : tie.Need-element-write-kinds Inv-loop μ-loop
 element-write-kinds c = search needs
 
--- src/lib.rt:197:9
 add-x : tie.Need-add-x Inv-loop μ-loop
 add-x c = search needs
 
--- src/lib.rt:195:5
 loop-less : tie.Need-loop-less Inv-loop μ-loop
 loop-less c = search needs
 
--- src/lib.rt:195:5
 loop-again : tie.Need-loop-again Inv-loop μ-loop
 loop-again c =
     let l = c .before .loop in
     let s = c .before .before in
-    fill-turn 0 1024 (λ k. 0) (s .args .kinds .now) (l .kinds) (l .x) (l .x) 0 (l .inv) (c .loop-test .taken) (omega (arith, s .pre)) (omega arith) refl
+    fill-turn 0 1024 (λ k. 0) (s .args .kinds .now) (l .kinds) (l .x) (l .x) 0 (l .inv) (c .loop-test .taken) (omega (arith, s .pre))
+    (omega arith) refl
 
--- src/lib.rt:190:1
 returns : tie.Need-returns Inv-loop μ-loop
 returns c =
     let l = c .before .loop in
