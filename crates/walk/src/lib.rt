@@ -187,6 +187,20 @@ fn kind(d: usize, row: usize) -> u8
     2
 }
 
+// Places of no kind, and rows for them.
+pub fn no_kinds() -> [u8; 1024]
+    ensures { λ r. ⌜ length r ≡ 1024 ⌝ }
+{
+    [0u8; 1024]
+}
+
+pub fn no_rows() -> [[u32; 32]; 1024]
+    ensures { λ r. ⌜ (length r ≡ 1024) × ((x : ℕ) → x < 1024 → length (getD r x []) ≡ 32) ⌝ }
+{
+    let z = [0u32; 32];
+    [z; 1024]
+}
+
 fn clear(kinds: &mut [u8; 1024])
     requires { ⌜ length (now kinds) ≡ 1024 ⌝ }
     ensures { λ _. ⌜ (length (now (kinds .exit)) ≡ 1024) × ((x : ℕ) → x < 1024 → getD (now (kinds .exit)) x 0 ≡ 0) ⌝ }
