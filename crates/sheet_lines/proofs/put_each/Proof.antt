@@ -1,4 +1,4 @@
--- `sheet_lines::put_lines` meets its contract: after i turns the lines of the first i sets stand there, of 256 bytes at most each.
+-- `sheet_lines::put_each` meets its contract: after i turns the lines of the first i sets stand there, of 256 bytes at most each.
 -- Assumes nothing.
 use Rattle.sheet_lines.proofs.Lines.{lines-none, lines-more, lines-end}
 use Rattle.sheet_lines.specs.Lines.{IsLines}
@@ -8,8 +8,8 @@ use Prim.Native.Nat.{_*_, _-_, _≤_}
 use mathlib.Core.Path.{_≡_, refl, _∙_}
 use borrow.Author.Needs.{needs}
 use native.Mathlib.Omega.{arith}
-use Rattle.sheet_lines.proofs.put_lines.Statement.{statement}
-use Rattle.sheet_lines.proofs.put_lines.Tie as tie
+use Rattle.sheet_lines.proofs.put_each.Statement.{statement}
+use Rattle.sheet_lines.proofs.put_each.Tie as tie
 
 abbrev Inv-loop : tie.InvT-loop
 Inv-loop out₀ s labels entries first count r₀ z₀ end₀ i₀ out r z end i =
@@ -74,11 +74,11 @@ returns : tie.Need-returns Inv-loop μ-loop
 returns c =
     let a = c .before .before .before .before .before .before .before .args in
     let l = c .before .loop in
-    lines-end (a .s) (a .labels .now) (a .entries .now) (a .first) (a .out .now) 0 (l .i) (a .count) (omega (arith, l .inv .0))
-    (l .inv .5)
+    let all : l .i ≡ a .count = omega (arith, l .inv .0) in
+    (lines-end (a .s) (a .labels .now) (a .entries .now) (a .first) (a .out .now) 0 (l .i) (a .count) all (l .inv .5), omega (arith, l .inv .1))
 
-pub put-lines-spec : {M : Type 1} → statement M
-put-lines-spec =
+pub put-each-spec : {M : Type 1} → statement M
+put-each-spec =
     tie.close
     (tie.spec
     Inv-loop
