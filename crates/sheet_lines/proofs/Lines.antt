@@ -1,4 +1,4 @@
--- A set's line from the verdict and the vector that it shows; the lines of the sets one after another, one line more.
+-- A set's line from the verdict and the vector that it shows; the lines of the sets one after another, one line more and many more.
 -- Assumes nothing.
 use mathlib.Core.Path.{_≡_, refl, sym, ap, _∙_}
 use mathlib.Core.Bool.{Bool, true, false}
@@ -43,10 +43,12 @@ module _ (s : Shape) (labels entries : List ℕ) (set : ℕ) where
   -- What is kept of a set is what its line shows.
   module _ (kind : ℕ) (row : List ℕ) (long : length row ≡ 32) (kept : Says s labels entries set kind row) where
     pub shows-kept-open : s .d ≤ 32 → kind ≡ 1 → Shows s labels entries set true (take (s .d - 0) row)
-    shows-kept-open d q = let z : s .d - 0 ≡ s .d = omega arith in rw z (kept .if-open q, length-take-le (s .d) row (omega (arith, long)))
+    shows-kept-open d q = let z : s .d - 0 ≡ s .d = omega arith in
+        rw z (kept .if-open q, length-take-le (s .d) row (omega (arith, long)))
 
     pub shows-kept-closed : s .e ≤ 12 → kind ≡ 2 → Shows s labels entries set false (take (s .e - 0) row)
-    shows-kept-closed e q = let z : s .e - 0 ≡ s .e = omega arith in rw z (kept .if-closed q, length-take-le (s .e) row (omega (arith, long)))
+    shows-kept-closed e q = let z : s .e - 0 ≡ s .e = omega arith in
+        rw z (kept .if-closed q, length-take-le (s .e) row (omega (arith, long)))
 
   pub line-put : (b : List ℕ) (at : ℕ) (opens : Bool) (vector : List ℕ) {a : List ℕ} {end : ℕ} → Shows s labels entries set opens vector
       → Put b at (setText (s .p) set opens vector) end a → PutSome (IsLine s labels entries set) b at end a
@@ -82,7 +84,8 @@ module _ (s : Shape) (labels entries : List ℕ) (first : ℕ) where
   )
 
   pub lines-join : (b : List ℕ) (at i count : ℕ) {a₁ a₂ : List ℕ} {m end : ℕ} → PutSome (IsLines s labels entries first i) b at m a₁
-      → PutSome (IsLines s labels entries (first + i) count) a₁ m end a₂ → PutSome (IsLines s labels entries first (i + count)) b at end a₂
+      → PutSome (IsLines s labels entries (first + i) count) a₁ m end a₂ → PutSome (IsLines s labels entries first (i + count)) b at end
+      a₂
   lines-join b at i count x y = record {
     text = x .text ++ y .text;
     is = lines-append i count (x .text) (y .text) (x .is) (y .is);

@@ -1,13 +1,13 @@
 -- `sheet_lines::put_each` meets its contract: after i turns the lines of the first i sets stand there, of 256 bytes at most each.
 -- Assumes nothing.
+use mathlib.Core.Path.{_≡_, refl, _∙_}
+use Prim.Native.Nat.{_*_, _-_, _≤_}
+use native.Mathlib.Omega.{arith}
+use lib.ListN.{length}
+use borrow.Author.Needs.{needs}
+use Rattle.digits.specs.Put.{PutSome}
 use Rattle.sheet_lines.proofs.Lines.{lines-none, lines-more, lines-end}
 use Rattle.sheet_lines.specs.Lines.{IsLines}
-use Rattle.digits.specs.Put.{PutSome}
-use lib.ListN.{length}
-use Prim.Native.Nat.{_*_, _-_, _≤_}
-use mathlib.Core.Path.{_≡_, refl, _∙_}
-use borrow.Author.Needs.{needs}
-use native.Mathlib.Omega.{arith}
 use Rattle.sheet_lines.proofs.put_each.Statement.{statement}
 use Rattle.sheet_lines.proofs.put_each.Tie as tie
 
@@ -74,8 +74,14 @@ returns : tie.Need-returns Inv-loop μ-loop
 returns c =
     let a = c .before .before .before .before .before .before .before .args in
     let l = c .before .loop in
-    let all : l .i ≡ a .count = omega (arith, l .inv .0) in
-    (lines-end (a .s) (a .labels .now) (a .entries .now) (a .first) (a .out .now) 0 (l .i) (a .count) all (l .inv .5), omega (arith, l .inv .1))
+    let all : l .i ≡ a .count = omega (arith, l .inv .0) in (
+      lines-end (a .s) (a .labels .now) (a .entries .now) (a .first) (a .out .now) 0 (l .i) (a .count) all (l .inv .5),
+      omega (
+        arith,
+        l
+            .inv .1,
+      ),
+    )
 
 pub put-each-spec : {M : Type 1} → statement M
 put-each-spec =

@@ -1,56 +1,60 @@
+-- `sheet_lines::put_run` meets its contract: after i turns the lines of the first i sets stand there, of 256 bytes at most each.
+-- Assumes nothing.
+use mathlib.Core.Path.{_≡_, refl, _∙_}
+use Prim.Native.Nat.{_+_, _*_, _-_, _≤_}
+use native.Mathlib.Omega.{arith}
+use lib.ListN.{length}
+use borrow.Author.Needs.{needs}
+use Rattle.digits.specs.Put.{PutSome}
 use Rattle.sheet_lines.proofs.Lines.{lines-none, lines-more, lines-end}
 use Rattle.sheet_lines.specs.Lines.{IsLines}
-use Rattle.digits.specs.Put.{PutSome}
-use lib.ListN.{length}
-use Prim.Native.Nat.{_+_, _*_, _-_, _≤_}
-use mathlib.Core.Path.{_≡_, refl, _∙_}
-use mathlib.Core.List.{[]}
-use borrow.Author.Needs.{needs}
-use native.Mathlib.Omega.{arith}
 use Rattle.sheet_lines.proofs.put_run.Statement.{statement}
 use Rattle.sheet_lines.proofs.put_run.Tie as tie
-use Rattle.sheet_lines.proofs.put_run.Reads as reads
-use Rattle.sheet_lines.proofs.put_run.Lts as lts
-use Rattle.sheet_lines.proofs.put_kept.Reads as put-kept-reads
 
 abbrev Inv-loop : tie.InvT-loop
-Inv-loop out₀ at s labels entries first count kinds slots r₀ z₀ end₀ i₀ out r z end i = (i ≤ count) × (end ≤ at + 256 * i) × (length out ≡ length out₀) × (length r ≡ length r₀) × (length z ≡ length z₀)
+Inv-loop out₀ at s labels entries first count kinds slots r₀ z₀ end₀ i₀ out r z end i = (i ≤ count) × (end ≤ at + 256 * i) × (length out
+    ≡ length out₀) × (length r ≡ length r₀) × (length z ≡ length z₀)
     × PutSome (IsLines s labels entries first i) out₀ at end out
 
 abbrev μ-loop : tie.MeasureT-loop
 μ-loop out₀ at s labels entries first count kinds slots r₀ z₀ end₀ i₀ out r z end i = count - i
 
--- src/lib.rt:219:5
 loop-holds : tie.Need-loop-holds Inv-loop μ-loop
 loop-holds c =
     let a = c .before .before .before .before .before .args in
     (omega arith, omega arith, refl, refl, refl, lines-none (a .s) (a .labels .now) (a .entries .now) (a .first) (a .out .now) (a .at))
 
--- src/lib.rt:220:26
 cast-kind : tie.Need-cast-kind Inv-loop μ-loop
-cast-kind c = let u = c .before .before .before .before .before .before .before .pre .1 .0 .10 in omega (arith, c .loop-test .taken)
+cast-kind c =
+    let u = c .before .before .before .before .before .before .before .pre .1 .0 .10 in
+    omega (arith, c .loop-test .taken)
 
--- src/lib.rt:220:20
 element-copy-out-kind : tie.Need-element-copy-out-kind Inv-loop μ-loop
-element-copy-out-kind c = let u = c .before .before .before .before .before .before .before .pre .1 .0 .10 in omega (arith, c .loop-test .taken)
+element-copy-out-kind c =
+    let u = c .before .before .before .before .before .before .before .pre .1 .0 .10 in
+    omega (arith, c .loop-test .taken)
 
--- src/lib.rt:221:25
 cast-row : tie.Need-cast-row Inv-loop μ-loop
-cast-row c = let u = c .before .before .before .before .before .before .before .before .pre .1 .0 .10 in omega (arith, c .before .loop-test .taken)
+cast-row c =
+    let u = c .before .before .before .before .before .before .before .before .pre .1 .0 .10 in
+    omega (arith, c .before .loop-test .taken)
 
--- src/lib.rt:221:19
 mul-row : tie.Need-mul-row Inv-loop μ-loop
-mul-row c = let u = c .before .before .before .before .before .before .before .before .pre .1 .0 .10 in omega (arith, c .before .loop-test .taken)
+mul-row c =
+    let u = c .before .before .before .before .before .before .before .before .pre .1 .0 .10 in
+    omega (arith, c .before .loop-test .taken)
 
--- src/lib.rt:221:19
 element-copy-out-row : tie.Need-element-copy-out-row Inv-loop μ-loop
-element-copy-out-row c = let u = c .before .before .before .before .before .before .before .before .pre .1 .0 .10 in omega (arith, c .before .loop-test .taken)
+element-copy-out-row c =
+    let u = c .before .before .before .before .before .before .before .before .pre .1 .0 .10 in
+    omega (arith, c .before .loop-test .taken)
 
--- src/lib.rt:228:13
 add-put-kept : tie.Need-add-put-kept Inv-loop μ-loop
-add-put-kept c = let u = c .before .before .before .before .before .before .before .before .before .before .pre .1 .0 .9 in omega (arith, c .before .before .before .loop-test .taken)
+add-put-kept c =
+    let u = c .before .before .before .before .before .before .before .before .before .before .pre .1 .0 .9 in
+    let h = c .before .before .before .loop-test .taken in
+    omega arith
 
--- src/lib.rt:222:9
 put-kept-requires : tie.Need-put-kept-requires Inv-loop μ-loop
 put-kept-requires c κs =
     let s = c .before .before .before .before .before .before .before .before .before .before .before .before in
@@ -67,18 +71,20 @@ put-kept-requires c κs =
       ),
     )
 
--- src/lib.rt:234:9
 add-i : tie.Need-add-i Inv-loop μ-loop
-add-i c = let u = c .before .before .before .before .before .before .before .before .before .before .before .before .before .before .before .before .before .before .before .pre .1 .0 .10 in omega (arith, c .before .before .before .before .before .before .before .before .before .before .before .before .loop-test .taken)
+add-i c =
+    let u = c .before .before .before .before .before .before .before .before .before .before .before .before .before .before .before
+    .before .before .before .before .pre .1 .0 .10 in
+    let h = c .before .before .before .before .before .before .before .before .before .before .before .before .loop-test .taken in
+    omega arith
 
--- src/lib.rt:219:5
 loop-less : tie.Need-loop-less Inv-loop μ-loop
 loop-less c = search needs
 
--- src/lib.rt:219:5
 loop-again : tie.Need-loop-again Inv-loop μ-loop
 loop-again c =
-    let a = c .before .before .before .before .before .before .before .before .before .before .before .before .before .before .before .before .before .before .before .args in
+    let a = c .before .before .before .before .before .before .before .before .before .before .before .before .before .before .before
+    .before .before .before .before .args in
     let l = c .before .before .before .before .before .before .before .before .before .before .before .before .before .loop in
     let p = c .before .before .before .before .before .before .put-kept in
     let h = c .before .before .before .before .before .before .before .before .before .before .before .before .loop-test .taken in (
@@ -90,19 +96,15 @@ loop-again c =
       lines-more (a .s) (a .labels .now) (a .entries .now) (a .first) (a .out .now) (a .at) (l .i) (l .inv .5) (p .ensures .0),
     )
 
--- src/lib.rt:193:1
 same-length : tie.Need-same-length Inv-loop μ-loop
 same-length c = search needs
 
--- src/lib.rt:193:1
 same-length-2 : tie.Need-same-length-2 Inv-loop μ-loop
 same-length-2 c = search needs
 
--- src/lib.rt:193:1
 same-length-3 : tie.Need-same-length-3 Inv-loop μ-loop
 same-length-3 c = search needs
 
--- src/lib.rt:193:1
 returns : tie.Need-returns Inv-loop μ-loop
 returns c =
     let a = c .before .before .before .before .before .before .before .args in

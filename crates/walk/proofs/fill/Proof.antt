@@ -95,8 +95,9 @@ loop-holds c =
     )
 
 turned-requires : tie.Need-turned-requires Inv-loop μ-loop
-turned-requires c κs = let s = c .before .before .before .before .before .before .before .before .before .before .before .before .before
-    .before .before in (c .loop-test .taken, s .pre .1 .0 .7)
+turned-requires c κs =
+    let s = c .before .before .before .before .before .before .before .before .before .before .before .before .before .before .before in
+    (c .loop-test .taken, s .pre .1 .0 .7)
 
 add-chosen-rows : tie.Need-add-chosen-rows Inv-loop μ-loop
 add-chosen-rows c =
