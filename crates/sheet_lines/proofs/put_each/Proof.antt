@@ -76,11 +76,7 @@ returns c =
     let l = c .before .loop in
     let all : l .i ≡ a .count = omega (arith, l .inv .0) in (
       lines-end (a .s) (a .labels .now) (a .entries .now) (a .first) (a .out .now) 0 (l .i) (a .count) all (l .inv .5),
-      omega (
-        arith,
-        l
-            .inv .1,
-      ),
+      omega (arith, l .inv .1),
     )
 
 pub put-each-spec : {M : Type 1} → statement M
