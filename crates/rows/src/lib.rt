@@ -120,7 +120,7 @@ fn settle(
 }
 
 // The witness in the document's order: the last place first.
-fn unload(y: &[u32; 27], z: &mut [u32])
+pub fn unload(y: &[u32; 27], z: &mut [u32])
     requires { ⌜ (1 ≤ length (now z)) × (length (now z) ≤ 12) ⌝ }
     ensures first { λ _. ⌜ (length (now (z .exit)) ≡ length (now (z .entry)))
         × (getD (now (z .exit)) 0 0 ≡ getD (now (y .entry)) (length (now (z .entry)) - 1) 0) ⌝ }

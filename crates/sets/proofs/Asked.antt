@@ -1,9 +1,12 @@
--- What a set's question hands out, from what the question of the chosen rows answers: the chosen rows are the set's.
+-- What a set's question hands out, from what the question of the chosen rows answers: the chosen rows are the set's. And what
+-- `chosen_rows` asks of the labels.
 -- Assumes nothing.
 use mathlib.Core.Path.{_≡_, refl, subst}
 use mathlib.Core.Bool.{Bool}
 use mathlib.Core.List.{List}
-use Prim.Native.Nat.{ℕ, _<_}
+use Prim.Native.Nat.{ℕ, _<_, _≤_}
+use native.Mathlib.Omega.{arith}
+use lib.ListN.{length, getD}
 use Rattle.linear.specs.Bits.{bit}
 use Rattle.linear.specs.Flat.{entry}
 use Rattle.linear.specs.Rows as Rows
@@ -21,3 +24,9 @@ set-handed s labels entries set r z r′ z′ a chosen same an o q =
     handed-same (s .p) (s .d) (s .e) (entry (s .e) entries) (entry (s .e) entries) (bit chosen) (ofSet set labels)
     (λ k j lk lj. refl) same r z o r′ z′
     (subst (λ (o : Bool). Rows.Handed (s .p) (s .d) (s .e) (entry (s .e) entries) (bit chosen) r z o r′ z′) q (an .handed))
+
+-- The participants of the rows are 16 at most.
+pub labels-right : (s : Shape) (labels : List ℕ) → s .n ≤ 16 → s .d ≤ 32 → length labels ≡ s .d
+    → ((k : ℕ) → k < s .d → (1 ≤ getD labels k 0) × (getD labels k 0 ≤ s .n))
+    → (length labels ≤ 32) × ((k : ℕ) → k < length labels → (1 ≤ getD labels k 0) × (getD labels k 0 ≤ 16))
+labels-right s labels n d e h = (omega arith, λ k l. let w = h k (omega arith) in (w .0, omega (arith, w .1)))

@@ -1,28 +1,25 @@
--- A set's line from the verdict and the vector that it shows; the lines of the sets one after another, one line more.
+-- A set's line from the verdict and the vector that it shows; the lines of the sets one after another, one line more and many more.
 -- Assumes nothing.
-use mathlib.Core.Path.{_≡_, refl}
+use mathlib.Core.Path.{_≡_, refl, sym, ap, _∙_}
 use mathlib.Core.Bool.{Bool, true, false}
-use mathlib.Core.List.{List, [], _++_}
-use Prim.Native.Nat.{ℕ, _+_, _<_, _≤_}
+use mathlib.Core.List.{List, [], _++_, append-assoc, append-nil}
+use Prim.Native.Nat.{ℕ, zero, suc, _+_, _-_, _<_, _≤_}
+use native.Mathlib.Nat.{add-assoc}
 use native.Mathlib.Numerals.{add-one}
 use native.Mathlib.Omega.{arith}
-use lib.ListN.{length, getD}
+use lib.ListN.{length, getD, take}
+use lib.Seq.{length-take-le}
 use Rattle.linear.specs.Bits.{bit}
 use Rattle.rows.specs.declared.Answer.{Answer}
 use Rattle.rows.specs.Answered.{Answered}
 use Rattle.scheme.specs.declared.Shape.{Shape}
 use Rattle.scheme.specs.Sets.{ofSet}
 use Rattle.sets.proofs.Asked.{set-handed}
+use Rattle.walk.specs.Answers.{Says}
 use Rattle.digits.specs.Put.{Put, PutSome}
 use Rattle.digits.proofs.Puts.{put-none, put-put}
 use Rattle.sheet_lines.specs.Texts.{setText}
 use Rattle.sheet_lines.specs.Lines.{Shows, IsLine, IsLines}
-
--- The participants of the rows are 16 at most.
-pub labels-right : (s : Shape) (labels : List ℕ) → s .n ≤ 16 → s .d ≤ 32 → length labels ≡ s .d
-    → ((k : ℕ) → k < s .d → (1 ≤ getD labels k 0) × (getD labels k 0 ≤ s .n))
-    → (length labels ≤ 32) × ((k : ℕ) → k < length labels → (1 ≤ getD labels k 0) × (getD labels k 0 ≤ 16))
-labels-right s labels n d e h = (omega arith, λ k l. let w = h k (omega arith) in (w .0, omega (arith, w .1)))
 
 module _ (s : Shape) (labels entries : List ℕ) (set : ℕ) where
   -- What the question of the set's rows hands out is what the line shows.
@@ -42,6 +39,16 @@ module _ (s : Shape) (labels entries : List ℕ) (set : ℕ) where
       → (length vector ≤ 32) × ((i : ℕ) → i < length vector → getD vector i 0 < s .p)
   shown-below true vector d e h = (omega (arith, h .1), λ i l. h .0 .below i (omega (arith, h .1)))
   shown-below false vector d e h = (omega (arith, h .1), λ i l. h .0 .below i (omega (arith, h .1)))
+
+  -- What is kept of a set is what its line shows.
+  module _ (kind : ℕ) (row : List ℕ) (long : length row ≡ 32) (kept : Says s labels entries set kind row) where
+    pub shows-kept-open : s .d ≤ 32 → kind ≡ 1 → Shows s labels entries set true (take (s .d - 0) row)
+    shows-kept-open d q = let z : s .d - 0 ≡ s .d = omega arith in
+        rw z (kept .if-open q, length-take-le (s .d) row (omega (arith, long)))
+
+    pub shows-kept-closed : s .e ≤ 12 → kind ≡ 2 → Shows s labels entries set false (take (s .e - 0) row)
+    shows-kept-closed e q = let z : s .e - 0 ≡ s .e = omega arith in
+        rw z (kept .if-closed q, length-take-le (s .e) row (omega (arith, long)))
 
   pub line-put : (b : List ℕ) (at : ℕ) (opens : Bool) (vector : List ℕ) {a : List ℕ} {end : ℕ} → Shows s labels entries set opens vector
       → Put b at (setText (s .p) set opens vector) end a → PutSome (IsLine s labels entries set) b at end a
@@ -63,6 +70,27 @@ module _ (s : Shape) (labels entries : List ℕ) (first : ℕ) where
     is = (x .text, y .text, x .is, y .is, refl);
     put = put-put b at (x .text) (y .text) (x .put) (y .put);
   })
+
+  -- Lines of more sets stand behind those before them.
+  lines-append : (i count : ℕ) (a b : List ℕ) → IsLines s labels entries first i a → IsLines s labels entries (first + i) count b
+      → IsLines s labels entries first (i + count) (a ++ b)
+  lines-append i zero a b x y = let q : i + 0 ≡ i = omega arith in rw (q, y, append-nil a) x
+  lines-append i (suc count) a b x y = let q : i + suc count ≡ suc (i + count) = omega arith in rw q (
+    a ++ y .0,
+    y .1,
+    lines-append i count a (y .0) x (y .2),
+    rw (← add-assoc first i count) (y .3),
+    ap (λ (l : List ℕ). a ++ l) (y .4) ∙ sym (append-assoc a (y .0) (y .1)),
+  )
+
+  pub lines-join : (b : List ℕ) (at i count : ℕ) {a₁ a₂ : List ℕ} {m end : ℕ} → PutSome (IsLines s labels entries first i) b at m a₁
+      → PutSome (IsLines s labels entries (first + i) count) a₁ m end a₂ → PutSome (IsLines s labels entries first (i + count)) b at end
+      a₂
+  lines-join b at i count x y = record {
+    text = x .text ++ y .text;
+    is = lines-append i count (x .text) (y .text) (x .is) (y .is);
+    put = put-put b at (x .text) (y .text) (x .put) (y .put);
+  }
 
   pub lines-end : (b : List ℕ) (at i count : ℕ) {a : List ℕ} {end : ℕ} → i ≡ count → PutSome (IsLines s labels entries first i) b at end a
       → PutSome (IsLines s labels entries first count) b at end a

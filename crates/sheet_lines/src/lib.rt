@@ -6,6 +6,7 @@ ghost use mathlib.Core.Bool.{Bool};
 ghost use Prim.Native.Nat.{ℕ, _<_, _≤_, _+_, _*_, _^_};
 ghost use lib.ListN.{length, getD};
 ghost use Rattle.residue.specs.Prime.{Prime};
+ghost use Rattle.walk.specs.Answers.{Says, Kept};
 ghost use Rattle.digits.specs.Digits.{decimal, nearest, wholeText};
 ghost use Rattle.digits.specs.Put.{Put, PutSome};
 ghost use Rattle.sheet_lines.specs.Texts.{field, headingText, vectorText, setText, refusedText, verdictWord};
@@ -116,6 +117,183 @@ fn put_set(
     put_line(out, at, s.p, set, false, z)
 }
 
+// The lines of so many sets from `first` on, from the first place on, each set asked by itself. There are 256 bytes for each.
+fn put_each(
+    out: &mut [u8],
+    s: Shape,
+    labels: &[u32],
+    entries: &[u32],
+    first: u32,
+    count: u32,
+    r: &mut [u32],
+    z: &mut [u32],
+) -> usize
+    requires { ⌜ Prime (s .p) ⌝ }
+    requires { ⌜ (s .p < 65536) × (s .n ≤ 16) × (s .d ≤ 32) × (1 ≤ s .e) × (s .e ≤ 12) × (length (now labels) ≡ s .d)
+        × (length (now entries) ≡ s .d * s .e) × (length (now r) ≡ s .d) × (length (now z) ≡ s .e)
+        × (first + count ≤ 65536) × (256 * count ≤ length (now out)) ⌝ }
+    requires { ⌜ ((k : ℕ) → k < s .d → (1 ≤ getD (now labels) k 0) × (getD (now labels) k 0 ≤ s .n)) ⌝ }
+    requires { ⌜ ((i : ℕ) → getD (now entries) i 0 < s .p) ⌝ }
+    ensures put { λ end. ⌜ PutSome (IsLines s (now (labels .entry)) (now (entries .entry)) first count)
+        (now (out .entry)) 0 end (now (out .exit)) ⌝ }
+    ensures room { λ end. ⌜ end ≤ 256 * count ⌝ }
+{
+    let mut end = 0;
+    let mut i = 0;
+    while i < count {
+        end = put_set(
+            &mut *out,
+            end,
+            s,
+            labels,
+            entries,
+            first + i,
+            &mut *r,
+            &mut *z,
+        );
+        i += 1;
+    }
+    end
+}
+
+// The line of a set whose answer is kept in a row, of which the kind says what it is; where there is none the set is asked.
+fn put_kept(
+    out: &mut [u8],
+    at: usize,
+    s: Shape,
+    labels: &[u32],
+    entries: &[u32],
+    set: u32,
+    kind: u8,
+    row: [u32; 32],
+    r: &mut [u32],
+    z: &mut [u32],
+) -> usize
+    requires { ⌜ Prime (s .p) ⌝ }
+    requires { ⌜ (s .p < 65536) × (s .n ≤ 16) × (s .d ≤ 32) × (1 ≤ s .e) × (s .e ≤ 12) × (length (now labels) ≡ s .d)
+        × (length (now entries) ≡ s .d * s .e) × (length (now r) ≡ s .d) × (length (now z) ≡ s .e)
+        × (at + 256 ≤ length (now out)) ⌝ }
+    requires { ⌜ ((k : ℕ) → k < s .d → (1 ≤ getD (now labels) k 0) × (getD (now labels) k 0 ≤ s .n)) ⌝ }
+    requires { ⌜ ((i : ℕ) → getD (now entries) i 0 < s .p) ⌝ }
+    requires { ⌜ Says s (now labels) (now entries) set kind row ⌝ }
+    ensures put { λ end. ⌜ PutSome (IsLine s (now (labels .entry)) (now (entries .entry)) set)
+        (now (out .entry)) at end (now (out .exit)) ⌝ }
+    ensures room { λ end. ⌜ end ≤ at + 256 ⌝ }
+{
+    let d = s.d;
+    let e = s.e;
+    if kind == 1 {
+        return put_line(out, at, s.p, set, true, &row[0..d]);
+    }
+    if kind == 2 {
+        return put_line(out, at, s.p, set, false, &row[0..e]);
+    }
+    put_set(out, at, s, labels, entries, set, r, z)
+}
+
+// The lines of so many sets from `first` on, whose answers are kept.
+fn put_run(
+    out: &mut [u8],
+    at: usize,
+    s: Shape,
+    labels: &[u32],
+    entries: &[u32],
+    first: u32,
+    count: u32,
+    kinds: &[u8; 1024],
+    slots: &[[u32; 32]; 1024],
+    r: &mut [u32],
+    z: &mut [u32],
+) -> usize
+    requires { ⌜ Prime (s .p) ⌝ }
+    requires { ⌜ (s .p < 65536) × (s .n ≤ 16) × (s .d ≤ 32) × (1 ≤ s .e) × (s .e ≤ 12) × (length (now labels) ≡ s .d)
+        × (length (now entries) ≡ s .d * s .e) × (length (now r) ≡ s .d) × (length (now z) ≡ s .e)
+        × (first + count ≤ 65536) × (count ≤ 1024) × (at + 256 * count ≤ length (now out)) ⌝ }
+    requires { ⌜ ((k : ℕ) → k < s .d → (1 ≤ getD (now labels) k 0) × (getD (now labels) k 0 ≤ s .n)) ⌝ }
+    requires { ⌜ ((i : ℕ) → getD (now entries) i 0 < s .p) ⌝ }
+    requires { ⌜ Kept s (now labels) (now entries) first (now kinds) (now slots) ⌝ }
+    ensures put { λ end. ⌜ PutSome (IsLines s (now (labels .entry)) (now (entries .entry)) first count)
+        (now (out .entry)) at end (now (out .exit)) ⌝ }
+    ensures room { λ end. ⌜ end ≤ at + 256 * count ⌝ }
+{
+    let mut end = at;
+    let mut i = 0;
+    while i < count {
+        let kind = kinds[i as usize];
+        let row = slots[i as usize];
+        end = put_kept(
+            &mut *out,
+            end,
+            s,
+            labels,
+            entries,
+            first + i,
+            kind,
+            row,
+            &mut *r,
+            &mut *z,
+        );
+        i += 1;
+    }
+    end
+}
+
+// How many of the sets that are left a run has.
+fn run_length(left: u32) -> u32
+    ensures { λ r. ⌜ (r ≤ 1024) × (r ≤ left) × (0 < left → 0 < r) ⌝ }
+{
+    if left < 1024 {
+        return left;
+    }
+    1024
+}
+
+// The lines of so many sets from `first` on, from the first place on, asked in runs of up to 1,024.
+fn put_runs(
+    out: &mut [u8],
+    s: Shape,
+    labels: &[u32],
+    entries: &[u32],
+    first: u32,
+    count: u32,
+    r: &mut [u32],
+    z: &mut [u32],
+) -> usize
+    requires { ⌜ Prime (s .p) ⌝ }
+    requires { ⌜ (s .p < 65536) × (s .n ≤ 16) × (s .d ≤ 32) × (1 ≤ s .e) × (s .e ≤ 12) × (length (now labels) ≡ s .d)
+        × (length (now entries) ≡ s .d * s .e) × (length (now r) ≡ s .d) × (length (now z) ≡ s .e)
+        × (first + count ≤ 65536) × (256 * count ≤ length (now out)) ⌝ }
+    requires { ⌜ ((k : ℕ) → k < s .d → (1 ≤ getD (now labels) k 0) × (getD (now labels) k 0 ≤ s .n)) ⌝ }
+    requires { ⌜ ((i : ℕ) → getD (now entries) i 0 < s .p) ⌝ }
+    ensures put { λ end. ⌜ PutSome (IsLines s (now (labels .entry)) (now (entries .entry)) first count)
+        (now (out .entry)) 0 end (now (out .exit)) ⌝ }
+    ensures room { λ end. ⌜ end ≤ 256 * count ⌝ }
+{
+    let mut kinds = walk::no_kinds();
+    let mut slots = walk::no_rows();
+    let mut end = 0;
+    let mut i = 0;
+    while i < count {
+        let some = run_length(count - i);
+        walk::fill(s, labels, entries, first + i, some, &mut kinds, &mut slots);
+        end = put_run(
+            &mut *out,
+            end,
+            s,
+            labels,
+            entries,
+            first + i,
+            some,
+            &kinds,
+            &slots,
+            &mut *r,
+            &mut *z,
+        );
+        i += some;
+    }
+    end
+}
+
 // The lines of so many sets from `first` on, from the first place on. There are 256 bytes for each.
 pub fn put_lines(
     out: &mut [u8],
@@ -137,20 +315,9 @@ pub fn put_lines(
         (now (out .entry)) 0 end (now (out .exit)) ⌝ }
     ensures room { λ end. ⌜ end ≤ length (now (out .entry)) ⌝ }
 {
-    let mut end = 0;
-    let mut i = 0;
-    while i < count {
-        end = put_set(
-            &mut *out,
-            end,
-            s,
-            labels,
-            entries,
-            first + i,
-            &mut *r,
-            &mut *z,
-        );
-        i += 1;
+    // A few sets have too little in common to be worth places for their answers.
+    if count < 16 {
+        return put_each(out, s, labels, entries, first, count, r, z);
     }
-    end
+    put_runs(out, s, labels, entries, first, count, r, z)
 }

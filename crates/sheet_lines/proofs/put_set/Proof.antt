@@ -1,6 +1,7 @@
 -- `sheet_lines::put_set` meets its contract: what the question of the set's rows hands out is what the line shows.
 -- Assumes nothing.
-use Rattle.sheet_lines.proofs.Lines.{labels-right, shows-open, shows-closed, shown-below, line-put}
+use Rattle.sets.proofs.Asked.{labels-right}
+use Rattle.sheet_lines.proofs.Lines.{shows-open, shows-closed, shown-below, line-put}
 use mathlib.Core.Bool.{true, false}
 use borrow.Author.Needs.{needs}
 use Rattle.sheet_lines.proofs.put_set.Statement.{statement}
