@@ -1,9 +1,19 @@
-// The sheet of a file on standard output, a part at a write.
+// The sheet of a file on standard output.
 use libc::STDOUT_FILENO;
 use sheets::Written;
+ghost use mathlib.Core.Path.{_≡_};
+ghost use lib.ListN.{length};
 
-// A sheet has 65,537 lines at most, so that a list of 65,536 places sees no more than 258 parts, the last of them empty.
-pub const PARTS: u32 = 258;
+// 1,024 lines a part, as many as are asked in one run: a sheet has 65,537 lines at most, so that there are no more than 66 parts, the last
+// of them empty.
+pub const PARTS: u32 = 66;
+
+// Places for a part.
+pub fn places() -> [u8; 262144]
+    ensures { λ r. ⌜ length r ≡ 262144 ⌝ }
+{
+    [0u8; 262144]
+}
 
 // How many bytes part k has; 0 after the last part.
 pub fn part_size(file: &[u8], k: u32, out: &mut [u8]) -> usize {
@@ -26,9 +36,9 @@ fn print_part(file: &[u8], k: u32, out: &mut [u8]) -> bool {
     io::write_all(STDOUT_FILENO, &out[0..n])
 }
 
-// Prints the sheet of a file by way of a list of 65,536 places.
+// Prints the sheet of a file, a part at a write.
 pub fn print(file: &[u8]) {
-    let mut space = io::large_buffer();
+    let mut space = places();
     print_by(file, &mut space);
 }
 

@@ -55,7 +55,7 @@ fn answer(full: bool, file: &[u8]) {
         sheet_out::print(file);
         return;
     }
-    let mut space = io::large_buffer();
+    let mut space = sheet_out::places();
     print_checks(file, &mut space);
 }
 
