@@ -7,7 +7,7 @@ use mathlib.Core.Logic.{⊎-elim}
 use Prim.Native.Nat.{ℕ, zero, suc, _<_, _≤_, _+_, _-_}
 use native.Mathlib.Omega.{arith}
 use lib.Dec.{eqb, ltb}
-use lib.ListN.{length, getD, set, take, drop, length-set, length-append, length-drop}
+use lib.ListN.{length, getD, set, take, drop, replicate, length-set, length-append, length-drop, getD-replicate, List·getD-eq-default}
 use lib.Seq.{getD-set-same, getD-set-other, take-at, length-take-le}
 use borrow.Author.Tests.{eqb-true, eq-eqb}
 use Rattle.algebra.proofs.Cases.{lt-or-ge}
@@ -17,7 +17,7 @@ use Rattle.linear.specs.Rows.{OpeningVector, Witness}
 use Rattle.lines.specs.Line.{Low}
 use Rattle.backward.specs.Solution.{Opened, Killed}
 use Rattle.rows.specs.State.{Unmet, Next}
-use Rattle.rows.proofs.Turns.{Stored, store-room, opening-end, witness-end}
+use Rattle.rows.proofs.Turns.{Stored, store-room, opening-end, witness-end, next-out}
 use Rattle.rows.proofs.Verdict.{unmet-next}
 use Rattle.walk.specs.Going.{Marks, Agree, Opens, Walked, Kills}
 use Rattle.walk.proofs.Same.{unmet-same, unmet-set}
@@ -74,6 +74,27 @@ module _ (p f : ℕ) (E : ℕ → ℕ → ℕ) where
 
       new : place (set counts (k + 1) s′) (k + 1) ≡ s′
       new = getD-set-same counts (k + 1) s′ 0 (omega (arith, m .len))
+
+-- A list that can stand for the line of a row that is not chosen.
+alike-low : (p e : ℕ) → e ≤ 12 → Low p (replicate 27 e)
+alike-low p e le lp i = ⊎-elim
+    (λ (l : i < 27). rw (getD-replicate 27 i e 0 l) (omega arith))
+    (λ (l : 27 ≤ i). rw (List·getD-eq-default (replicate 27 e) 0 l) (omega arith))
+    (lt-or-ge i 27)
+
+-- A row that is not chosen is passed.
+pub marks-skip : (p e f d : ℕ) (E : List ℕ) (chosen : ℕ → Bool) → e ≡ suc f → Prime p → e ≤ 12 → (k s : ℕ) (counts : List ℕ)
+    (t : List (List ℕ)) → Marks p f (entry e E) chosen k counts t → s ≡ place counts k → k < 32 → chosen k ≡ false
+    → Marks p f (entry e E) chosen (k + 1) (set counts (k + 1) s) t
+marks-skip p e f d E chosen q H le k s counts t m here l out = marks-more p f (entry e E) chosen k counts t s t l m (m .unmet)
+    (unmet-next p e f d E chosen q k s t (subst⁻¹ (λ (s : ℕ). Unmet p f (entry e E) chosen k s t) here (m .unmet k (omega arith)))
+    (replicate 27 e) H le
+    (next-out p e k s (ltb s e && chosen k) E t (replicate 27 e) (unwanted (ltb s e) (chosen k) out) (refl, alike-low p e le) refl)
+    s t (λ z. omega (arith, z)) ((λ z. absurd (omega (arith, z))), λ z. (refl, refl))) (omega arith)
+  where
+    unwanted : (a b : Bool) → b ≡ false → (a && b) ≡ false
+    unwanted true b h = h
+    unwanted false b h = refl
 
 module _ (p e f d : ℕ) (E : List ℕ) (chosen : ℕ → Bool) (q : e ≡ suc f) (H : Prime p) (le : e ≤ 12) (k s : ℕ) (counts : List ℕ)
     (t : List (List ℕ))

@@ -65,6 +65,12 @@ fn go_on(
     let mut s = first as usize;
     let mut k = from;
     while k < d {
+        let b = (chosen >> k) % 2;
+        if b == 0 {
+            k += 1;
+            counts[k] = s as u32;
+            continue;
+        }
         let v = rows::next_line(p, inv, e, chosen, k, s, entries, t);
         if is_target(e, &v) {
             backward::opening(p, inv, s, k, &v, t, r);
