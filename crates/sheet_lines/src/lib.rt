@@ -200,15 +200,15 @@ fn put_run(
     entries: &[u32],
     first: u32,
     count: u32,
-    kinds: &[u8; 1024],
-    slots: &[[u32; 32]; 1024],
+    kinds: &[u8; 4096],
+    slots: &[[u32; 32]; 4096],
     r: &mut [u32],
     z: &mut [u32],
 ) -> usize
     requires { ⌜ Prime (s .p) ⌝ }
     requires { ⌜ (s .p < 65536) × (s .n ≤ 16) × (s .d ≤ 32) × (1 ≤ s .e) × (s .e ≤ 12) × (length (now labels) ≡ s .d)
         × (length (now entries) ≡ s .d * s .e) × (length (now r) ≡ s .d) × (length (now z) ≡ s .e)
-        × (first + count ≤ 65536) × (count ≤ 1024) × (at + 256 * count ≤ length (now out)) ⌝ }
+        × (first + count ≤ 65536) × (count ≤ 4096) × (at + 256 * count ≤ length (now out)) ⌝ }
     requires { ⌜ ((k : ℕ) → k < s .d → (1 ≤ getD (now labels) k 0) × (getD (now labels) k 0 ≤ s .n)) ⌝ }
     requires { ⌜ ((i : ℕ) → getD (now entries) i 0 < s .p) ⌝ }
     requires { ⌜ Kept s (now labels) (now entries) first (now kinds) (now slots) ⌝ }
@@ -240,15 +240,15 @@ fn put_run(
 
 // How many of the sets that are left a run has.
 fn run_length(left: u32) -> u32
-    ensures { λ r. ⌜ (r ≤ 1024) × (r ≤ left) × (0 < left → 0 < r) ⌝ }
+    ensures { λ r. ⌜ (r ≤ 4096) × (r ≤ left) × (0 < left → 0 < r) ⌝ }
 {
-    if left < 1024 {
+    if left < 4096 {
         return left;
     }
-    1024
+    4096
 }
 
-// The lines of so many sets from `first` on, from the first place on, asked in runs of up to 1,024.
+// The lines of so many sets from `first` on, from the first place on, asked in runs of up to 4,096.
 fn put_runs(
     out: &mut [u8],
     s: Shape,

@@ -23,15 +23,15 @@ module _ (s : Shape) (labels entries : List ℕ) where
   says-none : (set kind : ℕ) (row : List ℕ) → kind ≡ 0 → Says s labels entries set kind row
   says-none set kind row z = record { if-open = λ q. absurd (omega arith); if-closed = λ q. absurd (omega arith) }
 
-  pub kept-start : (base : ℕ) (kinds₀ kinds : List ℕ) (slots : List (List ℕ)) → Places kinds₀ slots → length kinds ≡ 1024
-      → ((x : ℕ) → x < 1024 → getD kinds x 0 ≡ 0) → Kept s labels entries base kinds slots
+  pub kept-start : (base : ℕ) (kinds₀ kinds : List ℕ) (slots : List (List ℕ)) → Places kinds₀ slots → length kinds ≡ 4096
+      → ((x : ℕ) → x < 4096 → getD kinds x 0 ≡ 0) → Kept s labels entries base kinds slots
   kept-start base kinds₀ kinds slots p n z = record {
     places = record { kinds-length = n; slots-length = p .slots-length; row-length = p .row-length };
     says = λ x l. says-none (base + x) (getD kinds x 0) (getD slots x []) (z x l);
   }
 
   pub kept-put : (base : ℕ) (kinds : List ℕ) (slots : List (List ℕ)) (x kind : ℕ) (own : List ℕ) → Kept s labels entries base kinds slots
-      → x < 1024 → length own ≡ 32 → Says s labels entries (base + x) kind own
+      → x < 4096 → length own ≡ 32 → Says s labels entries (base + x) kind own
       → Kept s labels entries base (set kinds x kind) (set slots x own)
   kept-put base kinds slots x kind own k l n says = record {
     places = record {
@@ -114,7 +114,7 @@ pub kept-turn : (s : Shape) (labels entries : List ℕ) (base x chosen row : ℕ
     → ((k : ℕ) → k < length labels → bit chosen k ≡ ofSet (base + x) labels k) → length r ≡ 32
     → Walked (s .p) (s .d) (s .e) (entry (s .e) entries) (bit chosen) row counts t (take (s .d) r)
     → (row < s .d → own ≡ r) × (s .d ≤ row → Kills (s .p) (s .e) (place counts (s .d)) t own)
-    → (row < s .d → kind ≡ 1) × (s .d ≤ row → kind ≡ 2) → x < 1024 → Kept s labels entries base kinds slots
+    → (row < s .d → kind ≡ 1) × (s .d ≤ row → kind ≡ 2) → x < 4096 → Kept s labels entries base kinds slots
     → Kept s labels entries base (set kinds x kind) (set slots x own)
 kept-turn s labels entries base x chosen row counts t r own kind kinds slots long bits n w a mark l k =
     kept-put s labels entries base kinds slots x kind own k l

@@ -8,11 +8,11 @@ use Rattle.linear.specs.Flat.{place}
 use Rattle.scheme.specs.declared.Shape.{Shape}
 use Rattle.scheme.specs.Open as Set
 
--- There are 1,024 places, with rows of 32 numbers.
+-- There are 4,096 places, with rows of 32 numbers.
 pub record Places (kinds : List ℕ) (slots : List (List ℕ)) : Type 0 where
-  pub kinds-length : length kinds ≡ 1024
-  pub slots-length : length slots ≡ 1024
-  pub row-length : (x : ℕ) → x < 1024 → length (getD slots x []) ≡ 32
+  pub kinds-length : length kinds ≡ 4096
+  pub slots-length : length slots ≡ 4096
+  pub row-length : (x : ℕ) → x < 4096 → length (getD slots x []) ≡ 32
 
 module _ (s : Shape) (labels entries : List ℕ) where
   -- Kind 1: the first d numbers of the row are the set's r. Kind 2: its first e numbers are the set's z. Any other kind says nothing.
@@ -23,4 +23,4 @@ module _ (s : Shape) (labels entries : List ℕ) where
   -- Place x is for the set base + x.
   pub record Kept (base : ℕ) (kinds : List ℕ) (slots : List (List ℕ)) : Type 0 where
     pub places : Places kinds slots
-    pub says : (x : ℕ) → x < 1024 → Says (base + x) (getD kinds x 0) (getD slots x [])
+    pub says : (x : ℕ) → x < 4096 → Says (base + x) (getD kinds x 0) (getD slots x [])

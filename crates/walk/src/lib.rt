@@ -142,7 +142,7 @@ fn no_counts() -> [u32; 33]
 // The place that is the i-th to be asked: where their number is a power of two its bits turned round, so that participants whose rows
 // come early change seldom.
 fn turned(i: u32, count: u32) -> u32
-    requires { ⌜ (i < count) × (count ≤ 1024) ⌝ }
+    requires { ⌜ (i < count) × (count ≤ 4096) ⌝ }
     ensures { λ x. ⌜ x < count ⌝ }
 {
     let mut x: u32 = 0;
@@ -194,25 +194,25 @@ fn kind(d: usize, row: usize) -> u8
 }
 
 // Places of no kind, and rows for them.
-pub fn no_kinds() -> [u8; 1024]
-    ensures { λ r. ⌜ length r ≡ 1024 ⌝ }
+pub fn no_kinds() -> [u8; 4096]
+    ensures { λ r. ⌜ length r ≡ 4096 ⌝ }
 {
-    [0u8; 1024]
+    [0u8; 4096]
 }
 
-pub fn no_rows() -> [[u32; 32]; 1024]
-    ensures { λ r. ⌜ (length r ≡ 1024) × ((x : ℕ) → x < 1024 → length (getD r x []) ≡ 32) ⌝ }
+pub fn no_rows() -> [[u32; 32]; 4096]
+    ensures { λ r. ⌜ (length r ≡ 4096) × ((x : ℕ) → x < 4096 → length (getD r x []) ≡ 32) ⌝ }
 {
     let z = [0u32; 32];
-    [z; 1024]
+    [z; 4096]
 }
 
-fn clear(kinds: &mut [u8; 1024])
-    requires { ⌜ length (now kinds) ≡ 1024 ⌝ }
-    ensures { λ _. ⌜ (length (now (kinds .exit)) ≡ 1024) × ((x : ℕ) → x < 1024 → getD (now (kinds .exit)) x 0 ≡ 0) ⌝ }
+fn clear(kinds: &mut [u8; 4096])
+    requires { ⌜ length (now kinds) ≡ 4096 ⌝ }
+    ensures { λ _. ⌜ (length (now (kinds .exit)) ≡ 4096) × ((x : ℕ) → x < 4096 → getD (now (kinds .exit)) x 0 ≡ 0) ⌝ }
 {
     let mut x = 0;
-    while x < 1024 {
+    while x < 4096 {
         kinds[x] = 0;
         x += 1;
     }
@@ -225,12 +225,12 @@ pub fn fill(
     entries: &[u32],
     base: u32,
     count: u32,
-    kinds: &mut [u8; 1024],
-    slots: &mut [[u32; 32]; 1024],
+    kinds: &mut [u8; 4096],
+    slots: &mut [[u32; 32]; 4096],
 )
     requires { ⌜ Prime (s .p) ⌝ }
     requires { ⌜ (s .n ≤ 16) × (s .d ≤ 32) × (1 ≤ s .e) × (s .e ≤ 12) × (length (now labels) ≡ s .d)
-        × (length (now entries) ≡ s .d * s .e) × (base + count ≤ 65536) × (count ≤ 1024) ⌝ }
+        × (length (now entries) ≡ s .d * s .e) × (base + count ≤ 65536) × (count ≤ 4096) ⌝ }
     requires { ⌜ ((k : ℕ) → k < s .d → (1 ≤ getD (now labels) k 0) × (getD (now labels) k 0 ≤ s .n)) ⌝ }
     requires { ⌜ ((i : ℕ) → getD (now entries) i 0 < s .p) ⌝ }
     requires { ⌜ Places (now kinds) (now slots) ⌝ }

@@ -9,13 +9,13 @@ use Rattle.walk.proofs.clear.Statement.{statement}
 use Rattle.walk.proofs.clear.Tie as tie
 
 abbrev Inv-loop : tie.InvT-loop
-Inv-loop kinds₀ x₀ kinds x = Filled 0 1024 (λ k. 0) kinds₀ kinds x
+Inv-loop kinds₀ x₀ kinds x = Filled 0 4096 (λ k. 0) kinds₀ kinds x
 
 abbrev μ-loop : tie.MeasureT-loop
-μ-loop kinds₀ x₀ kinds x = 1024 - x
+μ-loop kinds₀ x₀ kinds x = 4096 - x
 
 loop-holds : tie.Need-loop-holds Inv-loop μ-loop
-loop-holds c = fill-start 0 1024 (λ k. 0) (c .args .kinds .now)
+loop-holds c = fill-start 0 4096 (λ k. 0) (c .args .kinds .now)
 
 element-write-kinds : tie.Need-element-write-kinds Inv-loop μ-loop
 element-write-kinds c = search needs
@@ -30,14 +30,14 @@ loop-again : tie.Need-loop-again Inv-loop μ-loop
 loop-again c =
     let l = c .before .loop in
     let s = c .before .before in
-    fill-turn 0 1024 (λ k. 0) (s .args .kinds .now) (l .kinds) (l .x) (l .x) 0 (l .inv) (c .loop-test .taken) (omega (arith, s .pre))
+    fill-turn 0 4096 (λ k. 0) (s .args .kinds .now) (l .kinds) (l .x) (l .x) 0 (l .inv) (c .loop-test .taken) (omega (arith, s .pre))
     (omega arith) refl
 
 returns : tie.Need-returns Inv-loop μ-loop
 returns c =
     let l = c .before .loop in
     let s = c .before .before in
-    (l .inv .size ∙ s .pre, filled 1024 (λ k. 0) (s .args .kinds .now) (l .kinds) (l .x) (l .inv) (c .loop-test .left))
+    (l .inv .size ∙ s .pre, filled 4096 (λ k. 0) (s .args .kinds .now) (l .kinds) (l .x) (l .inv) (c .loop-test .left))
 
 pub clear-spec : {M : Type 1} → statement M
 clear-spec =

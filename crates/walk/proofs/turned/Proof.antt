@@ -6,7 +6,7 @@ use Rattle.walk.proofs.turned.Statement.{statement}
 use Rattle.walk.proofs.turned.Tie as tie
 
 abbrev Inv-loop : tie.InvT-loop
-Inv-loop i count x₀ left₀ end₀ x left end = (1 ≤ end) × (x < end) × (end ≤ 2048)
+Inv-loop i count x₀ left₀ end₀ x left end = (1 ≤ end) × (x < end) × (end ≤ 8192)
 
 abbrev μ-loop : tie.MeasureT-loop
 μ-loop i count x₀ left₀ end₀ x left end = count - end
