@@ -8,46 +8,40 @@ use Rattle.scheme.specs.declared.Outcome.the-variants as Outcome
 use Rattle.scheme.specs.declared.Made.{Made}
 use Rattle.scheme.specs.declared.Made.the-variants as Made
 use Rattle.ask.specs.declared.Verdict as Ask
-use Rattle.ask.specs.declared.Verdict.the-variants as Ask
+use Rattle.ask.specs.declared.Verdict.the-variants as Asked
 use Rattle.join.specs.declared.Joined.{Joined}
 use Rattle.join.specs.declared.Joined.the-variants as Joined
 use Rattle.product.specs.declared.Verdict as Product
-use Rattle.product.specs.declared.Verdict.the-variants as Product
+use Rattle.product.specs.declared.Verdict.the-variants as Multiplied
 use Rattle.threshold.specs.declared.Verdict as Threshold
-use Rattle.threshold.specs.declared.Verdict.the-variants as Threshold
-use Rattle.sheets.specs.declared.Written.{Written}
-use Rattle.sheets.specs.declared.Written.the-variants as Written
+use Rattle.threshold.specs.declared.Verdict.the-variants as Tried
 
 abbrev pub outcomeNumber : Outcome → ℕ
 outcomeNumber Outcome.Done = 0
 outcomeNumber (Outcome.Refused k) = k
 
 abbrev pub askNumber : Ask.Verdict → ℕ
-askNumber Ask.Open = 100
-askNumber Ask.Closed = 101
-askNumber (Ask.Refused k) = k
+askNumber Asked.Open = 100
+askNumber Asked.Closed = 101
+askNumber (Asked.Refused k) = k
 
 abbrev pub joinedNumber : Joined → ℕ
 joinedNumber (Joined.Code c) = 0
 joinedNumber (Joined.Refused k) = k
 
 abbrev pub productNumber : Product.Verdict → ℕ
-productNumber Product.Yes = 100
-productNumber Product.No = 101
-productNumber (Product.Refused k) = k
+productNumber Multiplied.Yes = 100
+productNumber Multiplied.No = 101
+productNumber (Multiplied.Refused k) = k
 
 abbrev pub thresholdNumber : Threshold.Verdict → ℕ
-thresholdNumber Threshold.Yes = 100
-thresholdNumber (Threshold.No set) = 101
-thresholdNumber (Threshold.Refused k) = k
+thresholdNumber Tried.Yes = 100
+thresholdNumber (Tried.No set) = 101
+thresholdNumber (Tried.Refused k) = k
 
 abbrev pub madeNumber : Made → ℕ
 madeNumber (Made.Scheme s) = 0
 madeNumber (Made.Refused k) = k
-
-abbrev pub writtenNumber : Written → ℕ
-writtenNumber (Written.Bytes m) = 0
-writtenNumber (Written.Refused k) = k
 
 -- What a number lent for a result holds after the call: the result where there is one, else what it held before.
 abbrev pub codeAfter : Joined → ℕ → ℕ
@@ -55,13 +49,9 @@ codeAfter (Joined.Code c) code = c
 codeAfter (Joined.Refused k) code = code
 
 abbrev pub setAfter : Threshold.Verdict → ℕ → ℕ
-setAfter Threshold.Yes set = set
-setAfter (Threshold.No first) set = first
-setAfter (Threshold.Refused k) set = set
-
-abbrev pub sizeAfter : Written → ℕ → ℕ
-sizeAfter (Written.Bytes m) size = m
-sizeAfter (Written.Refused k) size = size
+setAfter Tried.Yes set = set
+setAfter (Tried.No first) set = first
+setAfter (Tried.Refused k) set = set
 
 abbrev pub shapeAfter : Made → Shape → Shape
 shapeAfter (Made.Scheme s) shape = s

@@ -8,16 +8,14 @@ use product::Verdict as Product;
 use scheme::Made;
 use scheme::Outcome;
 use scheme::Shape;
-use sheets::Written;
 use threshold::Verdict as Threshold;
 ghost use mathlib.Core.Path.{_≡_};
-ghost use mathlib.Core.Bool.{Bool, true};
 ghost use lib.ListN.{length};
 ghost use Rattle.scheme.specs.Tests.{unless, orElse};
 ghost use Rattle.scheme.specs.Refusal.{checkRefusal, numbersRefusal};
-ghost use Rattle.clavirost.specs.Numbers.{outcomeNumber};
+ghost use Rattle.clavirost.specs.Numbers.{outcomeNumber, askNumber, joinedNumber, productNumber, thresholdNumber, codeAfter, setAfter};
 ghost use Rattle.clavirost.specs.Told.{shapeOf, DealTold, AskTold, JoinTold, ProductTold, ThresholdTold};
-ghost use Rattle.clavirost.specs.Told.{WriteTold, LineTold, RuleTold, ReadTold, PartTold};
+ghost use Rattle.clavirost.specs.Told.{WriteTold, RuleTold, ReadTold};
 ghost use Rattle.clavirost.specs.Places.{placesRight, panelOf, PanelTold, PutTold, TakeTold, CodeTold, FreshTold};
 
 // Open, and yes.
@@ -43,6 +41,53 @@ fn outcome_number(a: Outcome) -> u32
     match a {
         Outcome::Done => 0,
         Outcome::Refused(k) => k,
+    }
+}
+
+fn ask_number(a: Asked) -> u32
+    ensures { λ x. ⌜ x ≡ askNumber a ⌝ }
+{
+    match a {
+        Asked::Open => YES,
+        Asked::Closed => NO,
+        Asked::Refused(k) => k,
+    }
+}
+
+fn product_number(a: Product) -> u32
+    ensures { λ x. ⌜ x ≡ productNumber a ⌝ }
+{
+    match a {
+        Product::Yes => YES,
+        Product::No => NO,
+        Product::Refused(k) => k,
+    }
+}
+
+// The number of what joining answers: the code, where there is one, is left in `code`.
+fn leave_code(a: Joined, code: &mut u32) -> u32
+    ensures { λ x. ⌜ (x ≡ joinedNumber a) × (now (code .exit) ≡ codeAfter a (now (code .entry))) ⌝ }
+{
+    match a {
+        Joined::Refused(k) => k,
+        Joined::Code(c) => {
+            *code = c;
+            0
+        }
+    }
+}
+
+// The number of a threshold verdict: the first set that breaks it, where there is one, is left in `set`.
+fn leave_set(a: Threshold, set: &mut u32) -> u32
+    ensures { λ x. ⌜ (x ≡ thresholdNumber a) × (now (set .exit) ≡ setAfter a (now (set .entry))) ⌝ }
+{
+    match a {
+        Threshold::Yes => YES,
+        Threshold::No(first) => {
+            *set = first;
+            NO
+        }
+        Threshold::Refused(k) => k,
     }
 }
 
@@ -99,11 +144,7 @@ pub extern "C" fn clavirost_ask(
         (now (r .entry)) (now (z .entry)) x (now (r .exit)) (now (z .exit)) ⌝ }
 {
     let a = ask::ask(shape(p, n, d, e), labels, entries, set, r, z);
-    match a {
-        Asked::Open => YES,
-        Asked::Closed => NO,
-        Asked::Refused(k) => k,
-    }
+    ask_number(a)
 }
 
 // Joins the shares of a set: the code is left in `code`.
@@ -123,13 +164,7 @@ pub extern "C" fn clavirost_join(
         (now (shares .entry)) (now (code .entry)) x (now (code .exit)) ⌝ }
 {
     let a = join::join(shape(p, n, d, e), labels, entries, set, shares);
-    match a {
-        Joined::Refused(k) => k,
-        Joined::Code(c) => {
-            *code = c;
-            0
-        }
-    }
+    leave_code(a, code)
 }
 
 // Has the scheme the product property? r is left where it has, w where it has not.
@@ -148,11 +183,7 @@ pub extern "C" fn clavirost_product(
         (now (r .entry)) (now (w .entry)) x (now (r .exit)) (now (w .exit)) ⌝ }
 {
     let a = product::product(shape(p, n, d, e), labels, entries, r, w);
-    match a {
-        Product::Yes => YES,
-        Product::No => NO,
-        Product::Refused(k) => k,
-    }
+    product_number(a)
 }
 
 // Is the scheme one with threshold t? The first set that breaks it is left in `set` where it is not.
@@ -170,14 +201,7 @@ pub extern "C" fn clavirost_threshold(
     ensures { λ x. ⌜ ThresholdTold (shapeOf p n d e) (now (labels .entry)) (now (entries .entry)) t (now (set .entry)) x (now (set .exit)) ⌝ }
 {
     let a = threshold::threshold(shape(p, n, d, e), labels, entries, t);
-    match a {
-        Threshold::Yes => YES,
-        Threshold::No(first) => {
-            *set = first;
-            NO
-        }
-        Threshold::Refused(k) => k,
-    }
+    leave_set(a, set)
 }
 
 // Makes the scheme of a written rule: its rows and columns are left in `d` and `e`, its labels and entries in the first places of the lists.
@@ -250,47 +274,6 @@ pub extern "C" fn clavirost_read(
     }
 }
 
-// Prints the line of a set into 256 places: how many bytes it has is left in `size`.
-#[no_mangle]
-pub extern "C" fn clavirost_sheet_line(
-    p: u32,
-    n: u32,
-    d: usize,
-    e: usize,
-    labels: &[u32],
-    entries: &[u32],
-    set: u32,
-    out: &mut [u8],
-    size: &mut usize,
-) -> u32
-    ensures { λ x. ⌜ LineTold (shapeOf p n d e) (now (labels .entry)) (now (entries .entry)) set (now (out .entry)) (now (size .entry)) x
-        (now (out .exit)) (now (size .exit)) ⌝ }
-{
-    let a = sheets::line(shape(p, n, d, e), labels, entries, set, out);
-    match a {
-        Written::Refused(k) => k,
-        Written::Bytes(m) => {
-            *size = m;
-            0
-        }
-    }
-}
-
-// Prints part k of the sheet of a file: how many bytes it has is left in `size`, 0 after the last part.
-#[no_mangle]
-pub extern "C" fn clavirost_sheet_part(file: &[u8], k: u32, out: &mut [u8], size: &mut usize) -> u32
-    ensures { λ x. ⌜ PartTold (now (file .entry)) k (now (out .entry)) (now (size .entry)) x (now (out .exit)) (now (size .exit)) ⌝ }
-{
-    let a = sheets::part(file, k, out);
-    match a {
-        Written::Refused(k) => k,
-        Written::Bytes(m) => {
-            *size = m;
-            0
-        }
-    }
-}
-
 fn places_right(labels: &[u32], entries: &[u32], stored: &[u32]) -> bool
     ensures { λ r. ⌜ r ≡ placesRight (now (labels .entry)) (now (entries .entry)) (now (stored .entry)) ⌝ }
 {
@@ -306,7 +289,7 @@ fn copy(from: &[u32], to: &mut [u32])
     ensures { λ _. ⌜ now (to .exit) ≡ now (from .entry) ⌝ }
 {
     let mut i = 0;
-    while i < to.len() {
+    while i < from.len() {
         to[i] = from[i];
         i += 1;
     }
@@ -347,7 +330,7 @@ fn places_refusal(s: Shape, labels: &[u32], entries: &[u32], stored: &[u32]) -> 
 
 // The panel that C hands over.
 fn panel_of(s: Shape, labels: &[u32], entries: &[u32], cards: u32, stored: &[u32]) -> Panel
-    requires { ⌜ placesRight (now labels) (now entries) (now stored) ≡ true ⌝ }
+    requires { ⌜ (length (now labels) ≡ 32) × (length (now entries) ≡ 384) × (length (now stored) ≡ 32) ⌝ }
     ensures { λ a. ⌜ a ≡ panelOf s (now (labels .entry)) (now (entries .entry)) cards (now (stored .entry)) ⌝ }
 {
     Panel {
@@ -375,6 +358,19 @@ fn hand_back(told: Told, cards: &mut u32, stored: &mut [u32]) -> u32
     outcome_number(said)
 }
 
+// The lists of a panel.
+fn hand_over(a: Panel, labels: &mut [u32], entries: &mut [u32], stored: &mut [u32])
+    requires { ⌜ (length (now labels) ≡ 32) × (length (now entries) ≡ 384) × (length (now stored) ≡ 32) ⌝ }
+    ensures { λ _. ⌜ (now (labels .exit) ≡ a .labels) × (now (entries .exit) ≡ a .entries) × (now (stored .exit) ≡ a .stored) ⌝ }
+{
+    let l = a.labels;
+    let m = a.entries;
+    let kept = a.stored;
+    copy(&l, labels);
+    copy(&m, entries);
+    copy(&kept, stored);
+}
+
 // Makes a panel with no card: its lists are left in its places.
 #[no_mangle]
 pub extern "C" fn clavirost_panel_new(
@@ -390,8 +386,8 @@ pub extern "C" fn clavirost_panel_new(
     stored: &mut [u32],
 ) -> u32
     ensures { λ x. ⌜ FreshTold (shapeOf p n d e) (now (labels .entry)) (now (entries .entry))
-        (now (panel_labels .entry)) (now (panel_entries .entry)) (now (cards .entry)) (now (stored .entry)) x
-        (now (panel_labels .exit)) (now (panel_entries .exit)) (now (cards .exit)) (now (stored .exit)) ⌝ }
+        (now («panel_labels» .entry)) (now («panel_entries» .entry)) (now (cards .entry)) (now (stored .entry)) x
+        (now («panel_labels» .exit)) (now («panel_entries» .exit)) (now (cards .exit)) (now (stored .exit)) ⌝ }
 {
     let s = shape(p, n, d, e);
     let fits = places_right(panel_labels, panel_entries, stored);
@@ -401,12 +397,7 @@ pub extern "C" fn clavirost_panel_new(
     }
     let made = panel::fresh(s, labels, entries);
     let a = made.panel;
-    let l = a.labels;
-    let m = a.entries;
-    let none = a.stored;
-    copy(&l, panel_labels);
-    copy(&m, panel_entries);
-    copy(&none, stored);
+    hand_over(a, panel_labels, panel_entries, stored);
     *cards = 0;
     0
 }
@@ -486,11 +477,5 @@ pub extern "C" fn clavirost_panel_code(
     let a = panel_of(s, labels, entries, cards, stored);
     let coded = a.code();
     let said = coded.said;
-    match said {
-        Joined::Refused(k) => k,
-        Joined::Code(c) => {
-            *code = c;
-            0
-        }
-    }
+    leave_code(said, code)
 }
