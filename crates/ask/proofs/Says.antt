@@ -1,6 +1,6 @@
 -- What `ask` answers, from what the question of the chosen rows answers; and that it settles the outcome.
 -- Assumes nothing.
-use mathlib.Core.Path.{_≡_, refl, sym, ap, ap₂, _∙_, subst}
+use mathlib.Core.Path.{_≡_, refl, sym, ap, ap₂, _∙_}
 use mathlib.Core.Bool.{Bool, true, false, _&&_, true≢false, false≢true}
 use mathlib.Core.List.{List}
 use Prim.Native.Nat.{ℕ, _<_, _≤_, _^_}
@@ -9,11 +9,11 @@ use lib.Dec.{eqb}
 use lib.ListN.{length, getD}
 use borrow.Author.Tests.{eqb-true, eq-eqb, lt-ltb}
 use Rattle.linear.specs.Flat.{place, entry}
-use Rattle.linear.specs.Rows as Rows
-use Rattle.linear.proofs.Handed.{handed-settled, handed-same, opening-opens, witness-closes}
+use Rattle.linear.proofs.Handed.{handed-settled, opening-opens, witness-closes}
 use Rattle.rows.specs.declared.Answer.{Answer}
 use Rattle.rows.specs.Answered.{Answered}
 use Rattle.linear.specs.Bits.{bit}
+use Rattle.sets.proofs.Asked.{set-handed}
 use Rattle.scheme.specs.declared.Shape.{Shape}
 use Rattle.scheme.specs.Open as Set
 use Rattle.scheme.specs.Sets.{ofSet}
@@ -56,9 +56,7 @@ module _ (s : Shape) (labels entries : List ℕ) (set : ℕ) (r z r′ z′ : Li
     (h : askRefusal s labels entries set (length r) (length z) ≡ 0) (same : (k : ℕ) → k < s .d → bit chosen k ≡ ofSet set labels k)
     (an : Answered (s .p) (s .d) (s .e) chosen entries r z a r′ z′) where
   handed : (o : Bool) → a .opens ≡ o → Set.Handed s labels entries set r z o r′ z′
-  handed o q = handed-same (s .p) (s .d) (s .e) (entry (s .e) entries) (entry (s .e) entries) (bit chosen) (ofSet set labels)
-      (λ k j lk lj. refl) same r z o r′ z′
-      (subst (λ (o : Bool). Rows.Handed (s .p) (s .d) (s .e) (entry (s .e) entries) (bit chosen) r z o r′ z′) q (an .handed))
+  handed o q = set-handed s labels entries set r z r′ z′ a chosen same an o q
 
   pub says-open : a .opens ≡ true → AskSays s labels entries set r z Open r′ z′
   unfolding AskSays

@@ -174,7 +174,7 @@ or-true true = refl
 or-true false = refl
 
 -- Version 1: each modulus has two bytes.
-modulus-below : (p : ℕ) → isModulus p ≡ true → p < 65536
+pub modulus-below : (p : ℕ) → isModulus p ≡ true → p < 65536
 modulus-below p h = ltb→lt p 65536 (all-lift (λ q. ltb q 65536) p moduli tt h)
 
 -- "1,024 or 1,536 bytes"

@@ -1,7 +1,8 @@
--- Dealing, writing and building a rule where nothing is refused: what they leave is what their contracts permit, and all that they
+-- Dealing, writing, building a rule and printing a line where nothing is refused: what they leave is what their contracts permit, and all that they
 -- permit.
 -- Assumes nothing.
-use mathlib.Core.Path.{_≡_, refl, sym, ap, ap₂, _∙_}
+use mathlib.Core.Path.{_≡_, refl, sym, ap, ap₂, _∙_, subst}
+use mathlib.Core.Bool.{true}
 use mathlib.Core.List.{List}
 use Prim.Native.Nat.{ℕ, _*_}
 use lib.ListN.{length}
@@ -24,7 +25,11 @@ use Rattle.format.specs.Format.{blocks, fileOf}
 use Rattle.format.specs.Writing.{writeRefusal}
 use Rattle.writing.specs.Says.{WriteSays}
 use Rattle.writing.proofs.Settled as Writing
-use Rattle.marked.specs.Only.{Deals, Writes, Builds}
+use Rattle.scheme.proofs.Refusals.{Valid, valid}
+use Rattle.sheet_lines.specs.Lines.{IsLine}
+use Rattle.sheet_lines.proofs.Computed.{lineOf, line-is}
+use Rattle.sheet_lines.proofs.Settled.{line-settled}
+use Rattle.marked.specs.Only.{Deals, Writes, Builds, Prints}
 use Rattle.marked.proofs.Parts.{two, three}
 
 pub deals : (s : Shape) (labels entries : List ℕ) (secret : ℕ) (randoms : List ℕ) → dealRefusal s labels entries secret randoms (s .d) ≡ 0
@@ -74,3 +79,13 @@ builds p n text r free i fits l e ll le = record {
     says : RuleSays p n text l e (Scheme (shapeOf p n r)) (over (labelsOf (rows p r)) l) (over (entriesOf (rows p r)) e)
     says = Rule.says-scheme p n text l e (shapeOf p n r) (over (labelsOf (rows p r)) l) (over (entriesOf (rows p r)) e)
         (ap₂ (frontRefusal p n) ll le ∙ free) (r, i, fits, refl, refl, refl)
+
+pub prints : (s : Shape) (labels entries : List ℕ) (scheme : IsScheme s labels entries) (set : ℕ) (text : List ℕ)
+    → lineOf s labels entries (valid s labels entries true scheme) set ≡ text → Prints s labels entries set text
+prints s labels entries scheme set text e = record { holds = line; alone = λ y g. line-settled s labels entries v set y text g line }
+  where
+    v : Valid s labels entries
+    v = valid s labels entries true scheme
+
+    line : IsLine s labels entries set text
+    line = subst (IsLine s labels entries set) e (line-is s labels entries v set)

@@ -22,8 +22,10 @@ use Rattle.rules.specs.Construction.{rows, modulo, ruleRows, lessAll, ruleTakes
 use Rattle.rules.proofs.Tried as Tried
 use Rattle.format.specs.Format.{numberOf, checkOf, fileOf}
 use Rattle.format.specs.Reading.{allBelow}
-use Rattle.marked.specs.Only.{Deals, Opens, Closes, JoinsTo, ProductYes, ProductNo, ThresholdIs, Builds, Writes}
-use Rattle.marked.proofs.Done.{deals, writes, builds}
+use Rattle.marked.specs.Only.{Deals, Opens, Closes, JoinsTo, ProductYes, ProductNo, ThresholdIs, Builds, Writes, Prints}
+use Rattle.digits.specs.Digits.{decimal, digitsIn, wholeText}
+use Rattle.sheet_lines.specs.Texts.{vectorText, setText}
+use Rattle.marked.proofs.Done.{deals, writes, builds, prints}
 use Rattle.marked.proofs.Asked.{opens, closes}
 use Rattle.marked.proofs.Joins.{joins-code, joins-closed, joins-unfit}
 use Rattle.marked.proofs.Multiplied.{product-yes, product-no}
@@ -72,8 +74,10 @@ single = record { p = 2; n = 2; d = 1; e = 1 }
 pub record Table : Type 0 where
   -- "A. S, secret 13, random 10, 2: shares 8, 7, 10, 0, 11."
   pub A : Deals S labels entries 13 (10 ∷ 2 ∷ []) (8 ∷ 7 ∷ 10 ∷ 0 ∷ 11 ∷ [])
-  -- "B. S, set 21: r = 4, 0, 3, 0, 11, ..; with A's shares, 13."
+  -- "B. S, set 21: r = 4, 0, 3, 0, 11, on the sheet `4 0 3 0 -6`; with A's shares, 13." The line is `21 OPEN 4 0 3 0 -6` and byte 10.
   pub B : Opens S labels entries 21 (4 ∷ 0 ∷ 3 ∷ 0 ∷ 11 ∷ [])
+  pub B-sheet : Prints S labels entries 21
+      (50 ∷ 49 ∷ 32 ∷ 79 ∷ 80 ∷ 69 ∷ 78 ∷ 32 ∷ 52 ∷ 32 ∷ 48 ∷ 32 ∷ 51 ∷ 32 ∷ 48 ∷ 32 ∷ 45 ∷ 54 ∷ 10 ∷ [])
   pub B-joined : JoinsTo S labels entries 21 (8 ∷ 7 ∷ 10 ∷ 0 ∷ 11 ∷ []) (Code 13)
   -- "C. S, set 5: z = 1, 10, 6. D. Set 2: z = 1, 8, 0."
   pub C : Closes S labels entries 5 (1 ∷ 10 ∷ 6 ∷ [])
@@ -138,10 +142,11 @@ text-rule = record {
 
 pub marked : Table
 unfolding refusalOf numbersRefusal contentRefusal each isIn readBelow sharesOf products allBelow
-    ruleNames rows modulo ruleRows lessAll ruleTakes ands labelsOf entriesOf fileOf
+    ruleNames rows modulo ruleRows lessAll ruleTakes ands labelsOf entriesOf fileOf setText vectorText decimal digitsIn wholeText
 marked = record {
   A = deals S labels entries 13 (10 ∷ 2 ∷ []) refl;
   B = opens S labels entries S-scheme 21 (4 ∷ 0 ∷ 3 ∷ 0 ∷ 11 ∷ []) (omega arith) refl;
+  B-sheet = prints S labels entries S-scheme 21 _ refl;
   B-joined = joins-code S labels entries S-scheme 21 (8 ∷ 7 ∷ 10 ∷ 0 ∷ 11 ∷ []) refl
       (4 ∷ 0 ∷ 3 ∷ 0 ∷ 11 ∷ []) (13 ∷ 10 ∷ 2 ∷ []) refl refl;
   C = closes S labels entries S-scheme 5 (1 ∷ 10 ∷ 6 ∷ []) (omega arith) refl;

@@ -25,6 +25,7 @@ use Rattle.threshold.specs.declared.Verdict as Threshold
 use Rattle.threshold.specs.Says.{ThresholdSays}
 use Rattle.rule.specs.Says.{RuleSays}
 use Rattle.writing.specs.Says.{WriteSays}
+use Rattle.sheet_lines.specs.Lines.{IsLine}
 
 -- P permits x and nothing else.
 pub record Only {A : Type 0} (P : A → Type 0) (x : A) : Type 0 where
@@ -71,6 +72,10 @@ module _ (s : Shape) (labels entries : List ℕ) where
   Writes places written =
       (file : List ℕ) → length file ≡ places
       → Only (λ (o : Outcome × List ℕ). WriteSays s labels entries file (o .0) (o .1)) (Done, written)
+
+  -- The set's line on the sheet is this text.
+  abbrev pub Prints : ℕ → List ℕ → Type 0
+  Prints set = Only (IsLine s labels entries set)
 
 -- The text is a rule, and building it gives this scheme, whose labels and entries stand in the first places of the lent lists.
 abbrev pub Builds : ℕ → ℕ → List ℕ → Shape → List ℕ → List ℕ → Type 0

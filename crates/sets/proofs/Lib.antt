@@ -1,2 +1,3 @@
 pub mod Mask
 pub mod Read
+pub mod Asked

@@ -24,7 +24,8 @@ fn put_field(out: &mut [u8], at: usize, n: u32) -> usize
 // The heading from the first place on.
 pub fn put_heading(out: &mut [u8], s: Shape) -> usize
     requires { ⌜ (s .d ≤ 32) × (s .e ≤ 12) × (256 ≤ length (now out)) ⌝ }
-    ensures { λ r. ⌜ Put (now (out .entry)) 0 (headingText s) r (now (out .exit)) ⌝ }
+    ensures put { λ r. ⌜ Put (now (out .entry)) 0 (headingText s) r (now (out .exit)) ⌝ }
+    ensures room { λ r. ⌜ r ≤ length (now (out .entry)) ⌝ }
 {
     let mut at = digits::put_text(&mut *out, 0, b"SCHEME");
     at = put_field(&mut *out, at, s.p);
@@ -37,7 +38,8 @@ pub fn put_heading(out: &mut [u8], s: Shape) -> usize
 // The line of a refusal from the first place on.
 pub fn put_refused(out: &mut [u8], k: u32) -> usize
     requires { ⌜ 256 ≤ length (now out) ⌝ }
-    ensures { λ r. ⌜ Put (now (out .entry)) 0 (refusedText k) r (now (out .exit)) ⌝ }
+    ensures put { λ r. ⌜ Put (now (out .entry)) 0 (refusedText k) r (now (out .exit)) ⌝ }
+    ensures room { λ r. ⌜ r ≤ length (now (out .entry)) ⌝ }
 {
     let mut at = digits::put_text(&mut *out, 0, b"REFUSED");
     at = put_field(&mut *out, at, k);
@@ -131,8 +133,9 @@ pub fn put_lines(
         × (first + count ≤ 65536) × (256 * count ≤ length (now out)) ⌝ }
     requires { ⌜ ((k : ℕ) → k < s .d → (1 ≤ getD (now labels) k 0) × (getD (now labels) k 0 ≤ s .n)) ⌝ }
     requires { ⌜ ((i : ℕ) → getD (now entries) i 0 < s .p) ⌝ }
-    ensures { λ end. ⌜ PutSome (IsLines s (now (labels .entry)) (now (entries .entry)) first count)
+    ensures put { λ end. ⌜ PutSome (IsLines s (now (labels .entry)) (now (entries .entry)) first count)
         (now (out .entry)) 0 end (now (out .exit)) ⌝ }
+    ensures room { λ end. ⌜ end ≤ length (now (out .entry)) ⌝ }
 {
     let mut end = 0;
     let mut i = 0;

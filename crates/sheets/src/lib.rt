@@ -2,12 +2,8 @@
 use scheme::Made;
 use scheme::Shape;
 ghost use mathlib.Core.Path.{_≡_};
-ghost use mathlib.Core.Bool.{Bool};
-ghost use Prim.Native.Nat.{ℕ, _<_, _≤_, _+_, _*_, _-_, _/_, _^_, min};
-ghost use lib.ListN.{length, getD};
-ghost use lib.Dec.{leb};
-ghost use Rattle.residue.specs.Prime.{Prime};
-ghost use Rattle.scheme.specs.Tests.{unless};
+ghost use Prim.Native.Nat.{_<_, _≤_, _+_, _*_, _-_, _/_, _^_, min};
+ghost use lib.ListN.{length, take};
 ghost use Rattle.scheme.specs.Refusal.{checkRefusal};
 ghost use Rattle.digits.specs.Put.{PutSome};
 ghost use Rattle.sheet_lines.specs.Lines.{IsLines};
@@ -40,9 +36,12 @@ fn numbers() -> [u32; 32]
 fn lines(out: &mut [u8], s: Shape, labels: &[u32], entries: &[u32], first: u32, count: u32) -> usize
     requires { ⌜ checkRefusal s (now labels) (now entries) ≡ 0 ⌝ }
     requires { ⌜ (first + count ≤ 65536) × (256 * count ≤ length (now out)) ⌝ }
-    ensures { λ end. ⌜ PutSome (IsLines s (now (labels .entry)) (now (entries .entry)) first count)
+    ensures put { λ end. ⌜ PutSome (IsLines s (now (labels .entry)) (now (entries .entry)) first count)
         (now (out .entry)) 0 end (now (out .exit)) ⌝ }
+    ensures room { λ end. ⌜ end ≤ length (now (out .entry)) ⌝ }
 {
+    let d = s.d;
+    let e = s.e;
     let mut r = numbers();
     let mut z = numbers();
     sheet_lines::put_lines(
@@ -52,8 +51,8 @@ fn lines(out: &mut [u8], s: Shape, labels: &[u32], entries: &[u32], first: u32, 
         entries,
         first,
         count,
-        &mut r[0..s.d],
-        &mut z[0..s.e],
+        &mut r[0..d],
+        &mut z[0..e],
     )
 }
 
@@ -83,23 +82,13 @@ pub fn refused(k: u32, out: &mut [u8]) -> Written
 fn first_set(k: u32, m: usize) -> u32
     ensures { λ r. ⌜ r ≡ min 65536 (m * k) ⌝ }
 {
-    if m == 0 {
+    if k == 0 {
         return 0;
     }
-    if 65536 <= m {
-        if k == 0 {
-            return 0;
-        }
+    if ((65536 / k) as usize) < m {
         return 65536;
     }
-    if 65536 <= k {
-        return 65536;
-    }
-    let first = (m as u32) * k;
-    if first < 65536 {
-        return first;
-    }
-    65536
+    (m as u32) * k
 }
 
 // How many lines there are from set `first` on, where a part has m of them.
@@ -121,8 +110,9 @@ fn lines_left(n: u32, first: u32, m: usize) -> u32
 // Part k of the sheet of a scheme.
 fn scheme_part(s: Shape, labels: &[u32], entries: &[u32], k: u32, out: &mut [u8]) -> usize
     requires { ⌜ (checkRefusal s (now labels) (now entries) ≡ 0) × (256 ≤ length (now out)) ⌝ }
-    ensures { λ r. ⌜ PutSome (SchemePart (length (now (out .entry)) / 256) s (now (labels .entry)) (now (entries .entry)) k)
+    ensures put { λ r. ⌜ PutSome (SchemePart (length (now (out .entry)) / 256) s (now (labels .entry)) (now (entries .entry)) k)
         (now (out .entry)) 0 r (now (out .exit)) ⌝ }
+    ensures room { λ r. ⌜ r ≤ length (now (out .entry)) ⌝ }
 {
     if k == 0 {
         return sheet_lines::put_heading(out, s);
@@ -136,12 +126,26 @@ fn scheme_part(s: Shape, labels: &[u32], entries: &[u32], k: u32, out: &mut [u8]
 // Part k of the sheet of a refused file.
 fn refused_part(bad: u32, k: u32, out: &mut [u8]) -> usize
     requires { ⌜ 256 ≤ length (now out) ⌝ }
-    ensures { λ r. ⌜ PutSome (RefusedPart bad k) (now (out .entry)) 0 r (now (out .exit)) ⌝ }
+    ensures put { λ r. ⌜ PutSome (RefusedPart bad k) (now (out .entry)) 0 r (now (out .exit)) ⌝ }
+    ensures room { λ r. ⌜ r ≤ length (now (out .entry)) ⌝ }
 {
     if k == 0 {
         return sheet_lines::put_refused(out, bad);
     }
     0
+}
+
+// Part k of the sheet of a scheme that was read: its labels and entries are the first of the places that it was read into.
+fn read_part(s: Shape, labels: &[u32], entries: &[u32], k: u32, out: &mut [u8]) -> usize
+    requires { ⌜ (length (now labels) ≡ 32) × (length (now entries) ≡ 384) × (256 ≤ length (now out)) ⌝ }
+    requires { ⌜ checkRefusal s (take (s .d) (now labels)) (take (s .d * s .e) (now entries)) ≡ 0 ⌝ }
+    ensures put { λ r. ⌜ PutSome (SchemePart (length (now (out .entry)) / 256) s (take (s .d) (now (labels .entry)))
+        (take (s .d * s .e) (now (entries .entry))) k) (now (out .entry)) 0 r (now (out .exit)) ⌝ }
+    ensures room { λ r. ⌜ r ≤ length (now (out .entry)) ⌝ }
+{
+    let d = s.d;
+    let size = d * s.e;
+    scheme_part(s, &labels[0..d], &entries[0..size], k, out)
 }
 
 fn table() -> [u32; 384]
@@ -152,24 +156,22 @@ fn table() -> [u32; 384]
 
 fn file_part(file: &[u8], k: u32, out: &mut [u8]) -> usize
     requires { ⌜ 256 ≤ length (now out) ⌝ }
-    ensures { λ r. ⌜ PutSome (IsPart (length (now (out .entry)) / 256) (now (file .entry)) k)
+    ensures put { λ r. ⌜ PutSome (IsPart (length (now (out .entry)) / 256) (now (file .entry)) k)
         (now (out .entry)) 0 r (now (out .exit)) ⌝ }
+    ensures room { λ r. ⌜ r ≤ length (now (out .entry)) ⌝ }
 {
     let mut labels = numbers();
     let mut entries = table();
     let made = reading::read(file, &mut labels, &mut entries);
     match made {
         Made::Refused(bad) => refused_part(bad, k, out),
-        Made::Scheme(s) => {
-            let size = s.d * s.e;
-            scheme_part(s, &labels[0..s.d], &entries[0..size], k, out)
-        }
+        Made::Scheme(s) => read_part(s, &labels, &entries, k, out),
     }
 }
 
 // Prints part k of the sheet of a file. Part 0 is the heading, or the line of a refused file; each later part has a line for each 256
-// places; the first part without a byte says that the sheet has ended. Wrong answers that the contract rules out: a line left out between two
-// parts; lines after the line of a refused file.
+// places; the first part without a byte says that the sheet has ended. Wrong answers that the contract rules out: a line left out between
+// two parts; lines after the line of a refused file.
 pub fn part(file: &[u8], k: u32, out: &mut [u8]) -> Written
     ensures { λ a. ⌜ PartSays (now (file .entry)) k (now (out .entry)) a (now (out .exit)) ⌝ }
 {

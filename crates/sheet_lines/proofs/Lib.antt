@@ -1,0 +1,4 @@
+pub mod Texts
+pub mod Lines
+pub mod Settled
+pub mod Computed
