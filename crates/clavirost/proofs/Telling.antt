@@ -24,9 +24,12 @@ use Rattle.rules.specs.Construction.{columns}
 use Rattle.rule.specs.Says.{RuleSays}
 use Rattle.writing.specs.Says.{WriteSays}
 use Rattle.reading.specs.Says.{ReadSays}
-use Rattle.clavirost.specs.Numbers.{outcomeNumber, askNumber, joinedNumber, productNumber, thresholdNumber, madeNumber}
-use Rattle.clavirost.specs.Numbers.{codeAfter, setAfter}
-use Rattle.clavirost.specs.Told.{Told, shapeOf, DealTold, AskTold, JoinTold, ProductTold, ThresholdTold, WriteTold, RuleTold, ReadTold}
+use Rattle.sheets.specs.declared.Written.{Written}
+use Rattle.sheets.specs.Says.{LineSays}
+use Rattle.clavirost.specs.Numbers.{outcomeNumber, askNumber, joinedNumber, productNumber, thresholdNumber, madeNumber, writtenNumber}
+use Rattle.clavirost.specs.Numbers.{codeAfter, setAfter, sizeAfter}
+use Rattle.clavirost.specs.Told.{Told, shapeOf, DealTold, AskTold, JoinTold, ProductTold, ThresholdTold}
+use Rattle.clavirost.specs.Told.{WriteTold, LineTold, RuleTold, ReadTold}
 
 -- The call was handed the scheme's numbers, as one record s, by C as four.
 told : {A : Type 0} (number : A → ℕ) (Permits : Shape → A → Type 0) (s t : Shape) (a : A) (x : ℕ) → s ≡ t → Permits s a → x ≡ number a
@@ -69,6 +72,11 @@ module _ {s t : Shape} (q : s ≡ t) (labels entries : List ℕ) {x : ℕ} where
   threshold-told m set set′ a h e =
       told thresholdNumber (λ s a. ThresholdSays s labels entries m a × (set′ ≡ setAfter a set)) s t a x q (h, e .1) (e .0)
 
+  pub line-told : (set : ℕ) (out out′ : List ℕ) (size size′ : ℕ) (a : Written) → LineSays s labels entries set out a out′
+      → (x ≡ writtenNumber a) × (size′ ≡ sizeAfter a size) → LineTold t labels entries set out size x out′ size′
+  line-told set out out′ size size′ a h e =
+      told writtenNumber (λ s a. LineSays s labels entries set out a out′ × (size′ ≡ sizeAfter a size)) s t a x q (h, e .1) (e .0)
+
 -- A rule or a file that makes no scheme leaves the numbers as they were.
 module _ {a : Made} {k : ℕ} (q : a ≡ Refused k) where
   pub rule-refused : (p n d e : ℕ) (text labels entries labels′ entries′ : List ℕ) → RuleSays p n text labels entries a labels′ entries′
@@ -87,6 +95,7 @@ module _ {a : Made} {k : ℕ} (q : a ≡ Refused k) where
     is = refl;
   }
 
+-- p and n of a shape that is given with them.
 given : (p n : ℕ) (s : Shape) (d e : ℕ) → s ≡ shapeOf p n d e → shapeOf p n (s .d) (s .e) ≡ s
 given p n s d e q = ap (λ (t : Shape). shapeOf p n (t .d) (t .e)) q ∙ sym q
 

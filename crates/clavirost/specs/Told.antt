@@ -19,8 +19,10 @@ use Rattle.threshold.specs.Says.{ThresholdSays}
 use Rattle.rule.specs.Says.{RuleSays}
 use Rattle.writing.specs.Says.{WriteSays}
 use Rattle.reading.specs.Says.{ReadSays}
-use Rattle.clavirost.specs.Numbers.{outcomeNumber, askNumber, joinedNumber, productNumber, thresholdNumber, madeNumber}
-use Rattle.clavirost.specs.Numbers.{codeAfter, setAfter, shapeAfter}
+use Rattle.sheets.specs.declared.Written.{Written}
+use Rattle.sheets.specs.Says.{LineSays, PartSays}
+use Rattle.clavirost.specs.Numbers.{outcomeNumber, askNumber, joinedNumber, productNumber, thresholdNumber, madeNumber, writtenNumber}
+use Rattle.clavirost.specs.Numbers.{codeAfter, setAfter, sizeAfter, shapeAfter}
 
 -- The number of an answer that is permitted.
 pub record Told {A : Type 0} (number : A → ℕ) (Permits : A → Type 0) (x : ℕ) : Type 0 where
@@ -54,6 +56,10 @@ module _ (s : Shape) (labels entries : List ℕ) where
   abbrev pub WriteTold : List ℕ → ℕ → List ℕ → Type 0
   WriteTold file x file′ = Told outcomeNumber (λ (a : Outcome). WriteSays s labels entries file a file′) x
 
+  abbrev pub LineTold : ℕ → List ℕ → ℕ → ℕ → List ℕ → ℕ → Type 0
+  LineTold set out size x out′ size′ =
+      Told writtenNumber (λ (a : Written). LineSays s labels entries set out a out′ × (size′ ≡ sizeAfter a size)) x
+
 -- A rule made a scheme of p and n: its d and e are left in numbers lent for them.
 abbrev pub RuleTold : ℕ → ℕ → List ℕ → List ℕ → List ℕ → ℕ → ℕ → ℕ → List ℕ → List ℕ → ℕ → ℕ → Type 0
 RuleTold p n text labels entries d e x labels′ entries′ d′ e′ =
@@ -63,3 +69,7 @@ RuleTold p n text labels entries d e x labels′ entries′ d′ e′ =
 abbrev pub ReadTold : List ℕ → List ℕ → List ℕ → Shape → ℕ → List ℕ → List ℕ → Shape → Type 0
 ReadTold file labels entries shape x labels′ entries′ shape′ =
     Told madeNumber (λ (a : Made). ReadSays file labels entries a labels′ entries′ × (shape′ ≡ shapeAfter a shape)) x
+
+abbrev pub PartTold : List ℕ → ℕ → List ℕ → ℕ → ℕ → List ℕ → ℕ → Type 0
+PartTold file k out size x out′ size′ =
+    Told writtenNumber (λ (a : Written). PartSays file k out a out′ × (size′ ≡ sizeAfter a size)) x

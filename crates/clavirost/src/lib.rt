@@ -8,14 +8,16 @@ use product::Verdict as Product;
 use scheme::Made;
 use scheme::Outcome;
 use scheme::Shape;
+use sheets::Written;
 use threshold::Verdict as Threshold;
 ghost use mathlib.Core.Path.{_≡_};
 ghost use lib.ListN.{length};
 ghost use Rattle.scheme.specs.Tests.{unless, orElse};
 ghost use Rattle.scheme.specs.Refusal.{checkRefusal, numbersRefusal};
-ghost use Rattle.clavirost.specs.Numbers.{outcomeNumber, askNumber, joinedNumber, productNumber, thresholdNumber, codeAfter, setAfter};
+ghost use Rattle.clavirost.specs.Numbers.{outcomeNumber, askNumber, joinedNumber, productNumber, thresholdNumber, writtenNumber};
+ghost use Rattle.clavirost.specs.Numbers.{codeAfter, setAfter, sizeAfter};
 ghost use Rattle.clavirost.specs.Told.{shapeOf, DealTold, AskTold, JoinTold, ProductTold, ThresholdTold};
-ghost use Rattle.clavirost.specs.Told.{WriteTold, RuleTold, ReadTold};
+ghost use Rattle.clavirost.specs.Told.{WriteTold, LineTold, RuleTold, ReadTold, PartTold};
 ghost use Rattle.clavirost.specs.Places.{placesRight, panelOf, PanelTold, PutTold, TakeTold, CodeTold, FreshTold};
 
 // Open, and yes.
@@ -88,6 +90,19 @@ fn leave_set(a: Threshold, set: &mut u32) -> u32
             NO
         }
         Threshold::Refused(k) => k,
+    }
+}
+
+// The number of what printing answers: how many bytes it printed is left in `size`.
+fn leave_size(a: Written, size: &mut usize) -> u32
+    ensures { λ x. ⌜ (x ≡ writtenNumber a) × (now (size .exit) ≡ sizeAfter a (now (size .entry))) ⌝ }
+{
+    match a {
+        Written::Refused(k) => k,
+        Written::Bytes(m) => {
+            *size = m;
+            0
+        }
     }
 }
 
@@ -272,6 +287,35 @@ pub extern "C" fn clavirost_read(
             0
         }
     }
+}
+
+// Prints the line of a set into 256 places: how many bytes it has is left in `size`.
+#[no_mangle]
+pub extern "C" fn clavirost_sheet_line(
+    p: u32,
+    n: u32,
+    d: usize,
+    e: usize,
+    labels: &[u32],
+    entries: &[u32],
+    set: u32,
+    out: &mut [u8],
+    size: &mut usize,
+) -> u32
+    ensures { λ x. ⌜ LineTold (shapeOf p n d e) (now (labels .entry)) (now (entries .entry)) set (now (out .entry)) (now (size .entry)) x
+        (now (out .exit)) (now (size .exit)) ⌝ }
+{
+    let a = sheets::line(shape(p, n, d, e), labels, entries, set, out);
+    leave_size(a, size)
+}
+
+// Prints part k of the sheet of a file: how many bytes it has is left in `size`, 0 after the last part.
+#[no_mangle]
+pub extern "C" fn clavirost_sheet_part(file: &[u8], k: u32, out: &mut [u8], size: &mut usize) -> u32
+    ensures { λ x. ⌜ PartTold (now (file .entry)) k (now (out .entry)) (now (size .entry)) x (now (out .exit)) (now (size .exit)) ⌝ }
+{
+    let a = sheets::part(file, k, out);
+    leave_size(a, size)
 }
 
 fn places_right(labels: &[u32], entries: &[u32], stored: &[u32]) -> bool

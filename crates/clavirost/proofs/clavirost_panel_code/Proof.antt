@@ -1,46 +1,33 @@
+-- `clavirost_panel_code` meets its contract, as putting in does.
+-- Assumes nothing.
 use Rattle.clavirost.proofs.Handing.{free, code-refused, code-told}
-use native.Mathlib.Omega.{arith}
 use borrow.Author.Needs.{needs}
 use Rattle.clavirost.proofs.clavirost_panel_code.Statement.{statement}
 use Rattle.clavirost.proofs.clavirost_panel_code.Tie as tie
-use Rattle.clavirost.proofs.clavirost_panel_code.Reads as reads
-use Rattle.clavirost.proofs.clavirost_panel_code.Lts as lts
-use Rattle.clavirost.proofs.leave_code.Reads as leave-code-reads
-use Rattle.clavirost.proofs.panel_of.Reads as panel-of-reads
-use Rattle.clavirost.proofs.places_refusal.Reads as places-refusal-reads
-use Rattle.clavirost.proofs.shape.Reads as shape-reads
-use Rattle.panel.proofs.Panel.code.Reads as code-reads
 
--- src/lib.rt:472:9
 shape-requires : tie.Need-shape-requires
 shape-requires c κs = search needs
 
--- src/lib.rt:473:9
 places-refusal-requires : tie.Need-places-refusal-requires
 places-refusal-requires c κs = search needs
 
--- src/lib.rt:475:9
 returns : tie.Need-returns
 returns c =
     let a = c .before .before .before .before .before .before .args in
     code-refused _ _ (c .before .before .shape .ensures) (a .labels .now) (a .entries .now) (a .cards) (a .stored .now) _ (c .before .places-refusal .ensures)
     (a .code .now) (c .if1 .taken)
 
--- src/lib.rt:477:9
 panel-of-requires : tie.Need-panel-of-requires
 panel-of-requires c κs =
     let a = c .before .before .before .before .before .before .args in
     free _ (a .labels .now) (a .entries .now) (a .stored .now) _ (c .before .places-refusal .ensures) (c .if1 .left)
 
--- src/lib.rt:478:9
 code-requires : tie.Need-code-requires
 code-requires c κs = search needs
 
--- src/lib.rt:480:5
 leave-code-requires : tie.Need-leave-code-requires
 leave-code-requires c κs = search needs
 
--- src/lib.rt:457:1
 returns-2 : tie.Need-returns-2
 returns-2 c =
     let a = c .before .before .before .before .before .before .before .before .before .before .args in

@@ -1,45 +1,34 @@
+-- `clavirost_read` meets its contract: of a refused file the four numbers stay, else they are the scheme's.
+-- Assumes nothing.
 use Rattle.clavirost.proofs.Telling.{read-refused, read-made}
-use native.Mathlib.Omega.{arith}
 use borrow.Author.Needs.{needs}
 use Rattle.clavirost.proofs.clavirost_read.Statement.{statement}
 use Rattle.clavirost.proofs.clavirost_read.Tie as tie
-use Rattle.clavirost.proofs.clavirost_read.Reads as reads
-use Rattle.clavirost.proofs.clavirost_read.Lts as lts
-use Rattle.reading.proofs.read.Reads as read-reads
 
--- src/lib.rt:239:9
 read-requires : tie.Need-read-requires
 read-requires c κs = search needs
 
--- src/lib.rt:241:23
 enum-known-a : tie.Need-enum-known-a
 enum-known-a c = search needs
 
--- src/lib.rt:242:22
 enum-known-a-2 : tie.Need-enum-known-a-2
 enum-known-a-2 c = search needs
 
--- src/lib.rt:225:1
 same-length : tie.Need-same-length
 same-length c = search needs
 
--- src/lib.rt:225:1
 same-length-2 : tie.Need-same-length-2
 same-length-2 c = search needs
 
--- src/lib.rt:225:1
 returns : tie.Need-returns
 returns c = read-refused (c .before .a .given .1) _ _ _ _ _ _ (c .before .before .before .before .before .before .before .read .ensures)
 
--- src/lib.rt:225:1
 same-length-3 : tie.Need-same-length-3
 same-length-3 c = search needs
 
--- src/lib.rt:225:1
 same-length-4 : tie.Need-same-length-4
 same-length-4 c = search needs
 
--- src/lib.rt:225:1
 returns-2 : tie.Need-returns-2
 returns-2 c = read-made (c .before .a2 .given .1) _ _ _ _ _ _ (c .before .before .before .before .before .before .before .read .ensures)
 

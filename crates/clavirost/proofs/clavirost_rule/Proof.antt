@@ -1,45 +1,34 @@
+-- `clavirost_rule` meets its contract: of a refused rule the two numbers stay, of a scheme they are its d and e.
+-- Assumes nothing.
 use Rattle.clavirost.proofs.Telling.{rule-refused, rule-made}
-use native.Mathlib.Omega.{arith}
 use borrow.Author.Needs.{needs}
 use Rattle.clavirost.proofs.clavirost_rule.Statement.{statement}
 use Rattle.clavirost.proofs.clavirost_rule.Tie as tie
-use Rattle.clavirost.proofs.clavirost_rule.Reads as reads
-use Rattle.clavirost.proofs.clavirost_rule.Lts as lts
-use Rattle.rule.proofs.build.Reads as build-reads
 
--- src/lib.rt:196:9
 build-requires : tie.Need-build-requires
 build-requires c κs = search needs
 
--- src/lib.rt:198:23
 enum-known-a : tie.Need-enum-known-a
 enum-known-a c = search needs
 
--- src/lib.rt:199:22
 enum-known-a-2 : tie.Need-enum-known-a-2
 enum-known-a-2 c = search needs
 
--- src/lib.rt:183:1
 same-length : tie.Need-same-length
 same-length c = search needs
 
--- src/lib.rt:183:1
 same-length-2 : tie.Need-same-length-2
 same-length-2 c = search needs
 
--- src/lib.rt:183:1
 returns : tie.Need-returns
 returns c = rule-refused (c .before .a .given .1) _ _ _ _ _ _ _ _ _ (c .before .before .before .before .before .before .before .build .ensures)
 
--- src/lib.rt:183:1
 same-length-3 : tie.Need-same-length-3
 same-length-3 c = search needs
 
--- src/lib.rt:183:1
 same-length-4 : tie.Need-same-length-4
 same-length-4 c = search needs
 
--- src/lib.rt:183:1
 returns-2 : tie.Need-returns-2
 returns-2 c = rule-made (c .before .a2 .given .1) _ _ _ _ _ _ _ _ _ (c .before .before .before .before .before .before .before .build .ensures)
 

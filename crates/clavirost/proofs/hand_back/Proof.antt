@@ -1,14 +1,11 @@
+-- `hand_back` meets its contract.
+-- Assumes nothing.
 use lib.ListN.{length, length-map}
 use Prim.Native.Nat.{ℕ}
 use mathlib.Core.Path.{_≡_, refl, sym, _∙_}
-use native.Mathlib.Omega.{arith}
 use borrow.Author.Needs.{needs}
 use Rattle.clavirost.proofs.hand_back.Statement.{statement}
 use Rattle.clavirost.proofs.hand_back.Tie as tie
-use Rattle.clavirost.proofs.hand_back.Reads as reads
-use Rattle.clavirost.proofs.hand_back.Lts as lts
-use Rattle.clavirost.proofs.copy.Reads as copy-reads
-use Rattle.clavirost.proofs.outcome_number.Reads as outcome-number-reads
 
 -- An array in a field has its declared length.
 stored-length : (c : tie.Start) → length (c .args .told .panel .stored) ≡ 32
@@ -17,19 +14,15 @@ stored-length c = sym (length-map (c .args .told .panel .stored) (λ (v : ℕ). 
 slice-aggregate-copy : tie.Need-slice-aggregate-copy
 slice-aggregate-copy c = search needs
 
--- src/lib.rt:357:5
 copy-requires : tie.Need-copy-requires
 copy-requires c κs = stored-length (c .before .before .before .before .before) ∙ sym (c .before .before .before .before .before .pre)
 
--- src/lib.rt:359:5
 outcome-number-requires : tie.Need-outcome-number-requires
 outcome-number-requires c κs = search needs
 
--- src/lib.rt:350:1
 same-length : tie.Need-same-length
 same-length c = search needs
 
--- src/lib.rt:350:1
 returns : tie.Need-returns
 returns c = record { is = c .outcome-number .ensures; cards = refl; stored = c .before .before .before .copy .ensures }
 

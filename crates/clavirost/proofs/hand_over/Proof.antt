@@ -1,13 +1,11 @@
+-- `hand_over` meets its contract.
+-- Assumes nothing.
 use lib.ListN.{length, length-map}
 use Prim.Native.Nat.{ℕ}
 use mathlib.Core.Path.{_≡_, sym, _∙_}
-use native.Mathlib.Omega.{arith}
 use borrow.Author.Needs.{needs}
 use Rattle.clavirost.proofs.hand_over.Statement.{statement}
 use Rattle.clavirost.proofs.hand_over.Tie as tie
-use Rattle.clavirost.proofs.hand_over.Reads as reads
-use Rattle.clavirost.proofs.hand_over.Lts as lts
-use Rattle.clavirost.proofs.copy.Reads as copy-reads
 
 -- An array in a field has its declared length.
 labels-length : (c : tie.Start) → length (c .args .a .labels) ≡ 32
@@ -22,39 +20,30 @@ stored-length c = sym (length-map (c .args .a .stored) (λ (v : ℕ). v)) ∙ c 
 slice-aggregate-copy : tie.Need-slice-aggregate-copy
 slice-aggregate-copy c = search needs
 
--- src/lib.rt:369:5
 copy-requires : tie.Need-copy-requires
 copy-requires c κs = labels-length (c .before .before .before .before .before .before .before .before) ∙ sym (c .before .before .before .before .before .before .before .before .pre .0)
 
--- src/lib.rt:370:10
 slice-aggregate-copy-2 : tie.Need-slice-aggregate-copy-2
 slice-aggregate-copy-2 c = search needs
 
--- src/lib.rt:370:5
 copy-requires-2 : tie.Need-copy-requires-2
 copy-requires-2 c κs = entries-length (c .before .before .before .before .before .before .before .before .before .before .before .before .before) ∙ sym (c .before .before .before .before .before .before .before .before .before .before .before .before .before .pre .1)
 
--- src/lib.rt:371:10
 slice-aggregate-copy-3 : tie.Need-slice-aggregate-copy-3
 slice-aggregate-copy-3 c = search needs
 
--- src/lib.rt:371:5
 copy-requires-3 : tie.Need-copy-requires-3
 copy-requires-3 c κs = stored-length (c .before .before .before .before .before .before .before .before .before .before .before .before .before .before .before .before .before .before) ∙ sym (c .before .before .before .before .before .before .before .before .before .before .before .before .before .before .before .before .before .before .pre .2)
 
--- src/lib.rt:362:1
 same-length : tie.Need-same-length
 same-length c = search needs
 
--- src/lib.rt:362:1
 same-length-2 : tie.Need-same-length-2
 same-length-2 c = search needs
 
--- src/lib.rt:362:1
 same-length-3 : tie.Need-same-length-3
 same-length-3 c = search needs
 
--- src/lib.rt:362:1
 returns : tie.Need-returns
 returns c = search needs
 

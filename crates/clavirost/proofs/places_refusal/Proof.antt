@@ -1,31 +1,23 @@
+-- `places_refusal` meets its contract: the tests that led to each `return` say which refusal it is.
+-- Assumes nothing.
 use mathlib.Core.Path.{sym, _∙_}
 use Rattle.scheme.proofs.Refusals.{gone, stands}
-use native.Mathlib.Omega.{arith}
 use borrow.Author.Needs.{needs}
 use Rattle.clavirost.proofs.places_refusal.Statement.{statement}
 use Rattle.clavirost.proofs.places_refusal.Tie as tie
-use Rattle.clavirost.proofs.places_refusal.Reads as reads
-use Rattle.clavirost.proofs.places_refusal.Lts as lts
-use Rattle.clavirost.proofs.places_right.Reads as places-right-reads
-use Rattle.scheme.proofs.numbers_refusal.Reads as numbers-refusal-reads
 
--- src/lib.rt:296:9
 numbers-refusal-requires : tie.Need-numbers-refusal-requires
 numbers-refusal-requires c κs = search needs
 
--- src/lib.rt:298:9
 returns : tie.Need-returns
 returns c = stands _ (c .before .numbers-refusal .ensures) (c .if1 .taken)
 
--- src/lib.rt:300:8
 places-right-requires : tie.Need-places-right-requires
 places-right-requires c κs = search needs
 
--- src/lib.rt:301:9
 returns-2 : tie.Need-returns-2
 returns-2 c = simp (gone (c .before .before .before .numbers-refusal .ensures) (c .before .before .if1 .left), sym (c .before .places-right .ensures) ∙ c .if2 .taken)
 
--- src/lib.rt:293:1
 returns-3 : tie.Need-returns-3
 returns-3 c = simp (gone (c .before .before .before .numbers-refusal .ensures) (c .before .before .if1 .left), sym (c .before .places-right .ensures) ∙ c .if2 .left)
 
