@@ -34,8 +34,9 @@ right labels entries stored h =
     (eqb-true (length labels) 32 (a .0), eqb-true (length entries) 384 (b .0), eqb-true (length stored) 32 (b .1))
 
 -- Where nothing is refused the lists have their places.
-pub free : (s : Shape) (labels entries stored : List ℕ) (x : ℕ) → x ≡ orElse (numbersRefusal s) (unless (placesRight labels entries stored) 5)
-    → x ≡ 0 → (length labels ≡ 32) × (length entries ≡ 384) × (length stored ≡ 32)
+pub free : (s : Shape) (labels entries stored : List ℕ) (x : ℕ)
+    → x ≡ orElse (numbersRefusal s) (unless (placesRight labels entries stored) 5) → x ≡ 0
+    → (length labels ≡ 32) × (length entries ≡ 384) × (length stored ≡ 32)
 free s labels entries stored x e z = right labels entries stored (unless-zero _ 4 (orElse-zero (numbersRefusal s) _ (sym e ∙ z) .1))
 
 pub panel-made : (s : Shape) (cards : ℕ) (labels entries stored l e k : List ℕ) → l ≡ labels → e ≡ entries → k ≡ stored
@@ -75,8 +76,8 @@ module _ (s t : Shape) (q : s ≡ t) (labels entries : List ℕ) (cards : ℕ) (
     same : b ≡ a
     same = m ∙ ap (λ (s : Shape). panelOf s labels entries cards stored) q
 
-    told-in : (f : Panel → Panel.Told) (told : Panel.Told) (y cards′ : ℕ) (stored′ : List ℕ) → told ≡ f b → PanelTold told y cards′ stored′
-        → PanelTold (toldIn (placesRefusal a) a (f a)) y cards′ stored′
+    told-in : (f : Panel → Panel.Told) (told : Panel.Told) (y cards′ : ℕ) (stored′ : List ℕ) → told ≡ f b
+        → PanelTold told y cards′ stored′ → PanelTold (toldIn (placesRefusal a) a (f a)) y cards′ stored′
     told-in f told y cards′ stored′ i h = subst (λ (w : Panel.Told). PanelTold w y cards′ stored′)
         (i ∙ ap f same ∙ ap (λ (k : ℕ). toldIn k a (f a)) (sym (is ∙ z))) h
 
@@ -88,8 +89,8 @@ module _ (s t : Shape) (q : s ≡ t) (labels entries : List ℕ) (cards : ℕ) (
         → PanelTold told y cards′ stored′ → TakeTold a who y cards′ stored′
     take-told who = told-in (λ (b : Panel). takenOut b who)
 
-    pub code-told : (told : Coded) (code y code′ : ℕ) → CodeSays b told → (y ≡ joinedNumber (told .said)) × (code′ ≡ codeAfter (told .said) code)
-        → CodeTold a code y code′
+    pub code-told : (told : Coded) (code y code′ : ℕ) → CodeSays b told
+        → (y ≡ joinedNumber (told .said)) × (code′ ≡ codeAfter (told .said) code) → CodeTold a code y code′
     code-told told code y code′ h i = record {
       answer = told .said;
       permits = (subst (λ (k : ℕ). CodeIn k a (told .said)) (sym (is ∙ z)) (subst (λ (b : Panel). CodeSays b told) same h .code), i .1);

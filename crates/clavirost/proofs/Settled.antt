@@ -1,5 +1,5 @@
--- The contracts of the exported calls settle what C is told: of any two outcomes that one of them permits, the numbers answered and the lists
--- and numbers left are equal. What the call itself answers is settled by its own crate; its number and what is left follow.
+-- The contracts of the exported calls settle what C is told: of any two outcomes that one of them permits, the numbers answered and the
+-- lists and numbers left are equal. What the call itself answers is settled by its own crate; its number and what is left follow.
 -- Assumes nothing.
 use mathlib.Core.Path.{_≡_, sym, ap, _∙_}
 use mathlib.Core.List.{List}
@@ -108,7 +108,8 @@ read-settled file labels entries shape x y l₁ m₁ l₂ m₂ s t g h =
     (told-settled g h (w .0), w .1, w .2, left-settled (λ (a : Made). shapeAfter a shape) (w .0) (g .permits .1) (h .permits .1))
 
 -- The calls on a panel that change it are functions of it.
-panel-settled : (told : Panel.Told) (x y b c : ℕ) (l m : List ℕ) → PanelTold told x b l → PanelTold told y c m → (x ≡ y) × (b ≡ c) × (l ≡ m)
+panel-settled : (told : Panel.Told) (x y b c : ℕ) (l m : List ℕ) → PanelTold told x b l → PanelTold told y c m
+    → (x ≡ y) × (b ≡ c) × (l ≡ m)
 panel-settled told x y b c l m g h = (g .is ∙ sym (h .is), g .cards ∙ sym (h .cards), g .stored ∙ sym (h .stored))
 
 module _ (a : Panel) where

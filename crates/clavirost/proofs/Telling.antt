@@ -26,7 +26,8 @@ use Rattle.writing.specs.Says.{WriteSays}
 use Rattle.reading.specs.Says.{ReadSays}
 use Rattle.sheets.specs.declared.Written.{Written}
 use Rattle.sheets.specs.Says.{LineSays}
-use Rattle.clavirost.specs.Numbers.{outcomeNumber, askNumber, joinedNumber, productNumber, thresholdNumber, madeNumber, writtenNumber}
+use Rattle.clavirost.specs.Numbers.{outcomeNumber, askNumber, joinedNumber, productNumber, thresholdNumber}
+use Rattle.clavirost.specs.Numbers.{madeNumber, writtenNumber}
 use Rattle.clavirost.specs.Numbers.{codeAfter, setAfter, sizeAfter}
 use Rattle.clavirost.specs.Told.{Told, shapeOf, DealTold, AskTold, JoinTold, ProductTold, ThresholdTold}
 use Rattle.clavirost.specs.Told.{WriteTold, LineTold, RuleTold, ReadTold}
@@ -107,7 +108,11 @@ module _ {a : Made} {s : Shape} (q : a ≡ Scheme s) where
   rule-made p n d e text labels entries labels′ entries′ h =
       let made : RuleSays p n text labels entries (Scheme s) labels′ entries′ =
       subst (λ (a : Made). RuleSays p n text labels entries a labels′ entries′) q h in
-      record { answer = Scheme s; permits = (made, given p n s (length (ruleNames (made .1 .0))) (columns (made .1 .0)) (made .1 .3)); is = refl }
+      record {
+        answer = Scheme s;
+        permits = (made, given p n s (length (ruleNames (made .1 .0))) (columns (made .1 .0)) (made .1 .3));
+        is = refl;
+      }
 
   pub read-made : (shape : Shape) (file labels entries labels′ entries′ : List ℕ) → ReadSays file labels entries a labels′ entries′
       → ReadTold file labels entries shape 0 labels′ entries′ s

@@ -1,5 +1,5 @@
--- The answers of the calls as numbers: a refusal is the paper's number; 0 is done; 100 is open or yes, and 101 closed or no, which are above
--- every refusal.
+-- The answers of the calls as numbers: a refusal is the paper's number; 0 is done; 100 is open or yes, and 101 closed or no, which are
+-- above every refusal.
 -- Assumes nothing.
 use Prim.Native.Nat.{ℕ}
 use Rattle.scheme.specs.declared.Shape.{Shape}

@@ -21,7 +21,8 @@ use Rattle.writing.specs.Says.{WriteSays}
 use Rattle.reading.specs.Says.{ReadSays}
 use Rattle.sheets.specs.declared.Written.{Written}
 use Rattle.sheets.specs.Says.{LineSays, PartSays}
-use Rattle.clavirost.specs.Numbers.{outcomeNumber, askNumber, joinedNumber, productNumber, thresholdNumber, madeNumber, writtenNumber}
+use Rattle.clavirost.specs.Numbers.{outcomeNumber, askNumber, joinedNumber, productNumber, thresholdNumber}
+use Rattle.clavirost.specs.Numbers.{madeNumber, writtenNumber}
 use Rattle.clavirost.specs.Numbers.{codeAfter, setAfter, sizeAfter, shapeAfter}
 
 -- The number of an answer that is permitted.
@@ -63,7 +64,8 @@ module _ (s : Shape) (labels entries : List ℕ) where
 -- A rule made a scheme of p and n: its d and e are left in numbers lent for them.
 abbrev pub RuleTold : ℕ → ℕ → List ℕ → List ℕ → List ℕ → ℕ → ℕ → ℕ → List ℕ → List ℕ → ℕ → ℕ → Type 0
 RuleTold p n text labels entries d e x labels′ entries′ d′ e′ =
-    Told madeNumber (λ (a : Made). RuleSays p n text labels entries a labels′ entries′ × (shapeOf p n d′ e′ ≡ shapeAfter a (shapeOf p n d e))) x
+    Told madeNumber (λ (a : Made). RuleSays p n text labels entries a labels′ entries′
+    × (shapeOf p n d′ e′ ≡ shapeAfter a (shapeOf p n d e))) x
 
 -- A file read: all four numbers are left.
 abbrev pub ReadTold : List ℕ → List ℕ → List ℕ → Shape → ℕ → List ℕ → List ℕ → Shape → Type 0

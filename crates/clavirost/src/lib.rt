@@ -213,13 +213,15 @@ pub extern "C" fn clavirost_threshold(
     t: u32,
     set: &mut u32,
 ) -> u32
-    ensures { λ x. ⌜ ThresholdTold (shapeOf p n d e) (now (labels .entry)) (now (entries .entry)) t (now (set .entry)) x (now (set .exit)) ⌝ }
+    ensures { λ x. ⌜ ThresholdTold (shapeOf p n d e) (now (labels .entry)) (now (entries .entry)) t
+        (now (set .entry)) x (now (set .exit)) ⌝ }
 {
     let a = threshold::threshold(shape(p, n, d, e), labels, entries, t);
     leave_set(a, set)
 }
 
-// Makes the scheme of a written rule: its rows and columns are left in `d` and `e`, its labels and entries in the first places of the lists.
+// Makes the scheme of a written rule: its rows and columns are left in `d` and `e`, its labels and entries in the first places of
+// the lists.
 #[no_mangle]
 pub extern "C" fn clavirost_rule(
     p: u32,
@@ -360,7 +362,8 @@ fn all_entries(from: &[u32]) -> [u32; 384]
 
 // 5, after 1 to 4, where the lists have not the panel's places.
 fn places_refusal(s: Shape, labels: &[u32], entries: &[u32], stored: &[u32]) -> u32
-    ensures { λ x. ⌜ x ≡ orElse (numbersRefusal s) (unless (placesRight (now (labels .entry)) (now (entries .entry)) (now (stored .entry))) 5) ⌝ }
+    ensures { λ x. ⌜ x ≡ orElse (numbersRefusal s)
+        (unless (placesRight (now (labels .entry)) (now (entries .entry)) (now (stored .entry))) 5) ⌝ }
 {
     let bad = scheme::numbers_refusal(s);
     if bad != 0 {
@@ -460,7 +463,8 @@ pub extern "C" fn clavirost_panel_put(
     who: u32,
     shares: &[u32],
 ) -> u32
-    ensures { λ x. ⌜ PutTold (panelOf (shapeOf p n d e) (now (labels .entry)) (now (entries .entry)) (now (cards .entry)) (now (stored .entry)))
+    ensures { λ x. ⌜ PutTold
+        (panelOf (shapeOf p n d e) (now (labels .entry)) (now (entries .entry)) (now (cards .entry)) (now (stored .entry)))
         who (now (shares .entry)) x (now (cards .exit)) (now (stored .exit)) ⌝ }
 {
     let s = shape(p, n, d, e);
@@ -485,7 +489,8 @@ pub extern "C" fn clavirost_panel_take(
     stored: &mut [u32],
     who: u32,
 ) -> u32
-    ensures { λ x. ⌜ TakeTold (panelOf (shapeOf p n d e) (now (labels .entry)) (now (entries .entry)) (now (cards .entry)) (now (stored .entry)))
+    ensures { λ x. ⌜ TakeTold
+        (panelOf (shapeOf p n d e) (now (labels .entry)) (now (entries .entry)) (now (cards .entry)) (now (stored .entry)))
         who x (now (cards .exit)) (now (stored .exit)) ⌝ }
 {
     let s = shape(p, n, d, e);

@@ -1,18 +1,18 @@
 -- `clavirost_panel_new` meets its contract: a call that is not refused has its lists' places, and the panel is fresh.
 -- Assumes nothing.
-use Rattle.clavirost.proofs.Handing.{fresh-right, fresh-refused, fresh-told}
 use borrow.Author.Needs.{needs}
+use Rattle.clavirost.proofs.Handing.{fresh-right, fresh-refused, fresh-told}
 use Rattle.clavirost.proofs.clavirost_panel_new.Statement.{statement}
 use Rattle.clavirost.proofs.clavirost_panel_new.Tie as tie
 
 shape-requires : tie.Need-shape-requires
-shape-requires c κs = search needs
+shape-requires c κs = tt
 
 places-right-requires : tie.Need-places-right-requires
-places-right-requires c κs = search needs
+places-right-requires c κs = tt
 
 refusal-requires : tie.Need-refusal-requires
-refusal-requires c κs = search needs
+refusal-requires c κs = tt
 
 same-length : tie.Need-same-length
 same-length c = search needs
@@ -25,18 +25,21 @@ same-length-3 c = search needs
 
 returns : tie.Need-returns
 returns c =
-    let a = c .before .before .before .before .before .before .before .before .before .before .before .before .args in
-    fresh-refused _ _ (c .before .before .before .before .before .before .shape .ensures) (a .labels .now) (a .entries .now) (a .panel-labels .now) (a .panel-entries .now) (a .cards .now)
-    (a .stored .now) _ _ (c .before .before .places-right .ensures) (c .before .refusal .ensures) (c .if1 .taken)
+    let s = c .before .before .before .before .before .before in
+    let a = s .before .before .before .before .before .before .args in
+    fresh-refused _ _ (s .shape .ensures) (a .labels .now) (a .entries .now) (a .panel-labels .now) (a .panel-entries .now)
+    (a .cards .now) (a .stored .now) _ _ (c .before .before .places-right .ensures) (c .before .refusal .ensures) (c .if1 .taken)
 
 fresh-requires : tie.Need-fresh-requires
-fresh-requires c κs = search needs
+fresh-requires c κs = tt
 
 hand-over-requires : tie.Need-hand-over-requires
 hand-over-requires c κs =
-    let a = c .before .before .before .before .before .before .before .before .before .before .before .before .before .before .before .before .before .args in
-    fresh-right _ _ (c .before .before .before .before .before .before .before .before .before .before .before .shape .ensures) (a .labels .now) (a .entries .now) (a .panel-labels .now) (a .panel-entries .now) (a .cards .now)
-    (a .stored .now) _ _ (c .before .before .before .before .before .before .before .places-right .ensures) (c .before .before .before .before .before .before .refusal .ensures) (c .before .before .before .before .before .if1 .left)
+    let i = c .before .before .before .before .before in
+    let s = i .before .before .before .before .before .before in
+    let a = s .before .before .before .before .before .before .args in
+    fresh-right _ _ (s .shape .ensures) (a .labels .now) (a .entries .now) (a .panel-labels .now) (a .panel-entries .now) (a .cards .now)
+    (a .stored .now) _ _ (i .before .before .places-right .ensures) (i .before .refusal .ensures) (i .if1 .left)
 
 same-length-4 : tie.Need-same-length-4
 same-length-4 c = search needs
@@ -49,10 +52,14 @@ same-length-6 c = search needs
 
 returns-2 : tie.Need-returns-2
 returns-2 c =
-    let a = c .before .before .before .before .before .before .before .before .before .before .before .before .before .before .before .before .before .before .before .before .before .before .before .before .args in
-    fresh-told _ _ (c .before .before .before .before .before .before .before .before .before .before .before .before .before .before .before .before .before .before .shape .ensures) (a .labels .now) (a .entries .now) (a .panel-labels .now) (a .panel-entries .now) (a .cards .now)
-    (a .stored .now) _ _ (c .before .before .before .before .before .before .before .before .before .before .before .before .before .before .places-right .ensures) (c .before .before .before .before .before .before .before .before .before .before .before .before .before .refusal .ensures) (c .before .before .before .before .before .before .before .before .before .before .before .before .if1 .left) (c .before .before .before .before .before .before .before .before .before .before .before .fresh .result)
-    (c .before .before .before .before .before .before .before .before .before .before .before .fresh .ensures) _ _ _ (c .before .before .before .before .before .before .hand-over .ensures)
+    let h = c .before .before .before .before .before .before in
+    let f = h .before .before .before .before .before in
+    let i = f .before in
+    let s = i .before .before .before .before .before .before in
+    let a = s .before .before .before .before .before .before .args in
+    fresh-told _ _ (s .shape .ensures) (a .labels .now) (a .entries .now) (a .panel-labels .now) (a .panel-entries .now) (a .cards .now)
+    (a .stored .now) _ _ (i .before .before .places-right .ensures) (i .before .refusal .ensures) (i .if1 .left) (f .fresh .result)
+    (f .fresh .ensures) _ _ _ (h .hand-over .ensures)
 
 pub clavirost-panel-new-spec : {M : Type 1} → statement M
 clavirost-panel-new-spec =

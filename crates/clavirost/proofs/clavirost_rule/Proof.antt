@@ -1,12 +1,12 @@
 -- `clavirost_rule` meets its contract: of a refused rule the two numbers stay, of a scheme they are its d and e.
 -- Assumes nothing.
-use Rattle.clavirost.proofs.Telling.{rule-refused, rule-made}
 use borrow.Author.Needs.{needs}
+use Rattle.clavirost.proofs.Telling.{rule-refused, rule-made}
 use Rattle.clavirost.proofs.clavirost_rule.Statement.{statement}
 use Rattle.clavirost.proofs.clavirost_rule.Tie as tie
 
 build-requires : tie.Need-build-requires
-build-requires c κs = search needs
+build-requires c κs = tt
 
 enum-known-a : tie.Need-enum-known-a
 enum-known-a c = search needs
@@ -21,7 +21,9 @@ same-length-2 : tie.Need-same-length-2
 same-length-2 c = search needs
 
 returns : tie.Need-returns
-returns c = rule-refused (c .before .a .given .1) _ _ _ _ _ _ _ _ _ (c .before .before .before .before .before .before .before .build .ensures)
+returns c =
+    let t = c .before in
+    rule-refused (t .a .given .1) _ _ _ _ _ _ _ _ _ (t .before .before .before .before .before .before .build .ensures)
 
 same-length-3 : tie.Need-same-length-3
 same-length-3 c = search needs
@@ -30,7 +32,9 @@ same-length-4 : tie.Need-same-length-4
 same-length-4 c = search needs
 
 returns-2 : tie.Need-returns-2
-returns-2 c = rule-made (c .before .a2 .given .1) _ _ _ _ _ _ _ _ _ (c .before .before .before .before .before .before .before .build .ensures)
+returns-2 c =
+    let t = c .before in
+    rule-made (t .a2 .given .1) _ _ _ _ _ _ _ _ _ (t .before .before .before .before .before .before .build .ensures)
 
 pub clavirost-rule-spec : {M : Type 1} → statement M
 clavirost-rule-spec =

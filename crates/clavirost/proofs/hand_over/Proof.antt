@@ -1,8 +1,8 @@
 -- `hand_over` meets its contract.
 -- Assumes nothing.
-use lib.ListN.{length, length-map}
-use Prim.Native.Nat.{ℕ}
 use mathlib.Core.Path.{_≡_, sym, _∙_}
+use Prim.Native.Nat.{ℕ}
+use lib.ListN.{length, length-map}
 use borrow.Author.Needs.{needs}
 use Rattle.clavirost.proofs.hand_over.Statement.{statement}
 use Rattle.clavirost.proofs.hand_over.Tie as tie
@@ -21,19 +21,24 @@ slice-aggregate-copy : tie.Need-slice-aggregate-copy
 slice-aggregate-copy c = search needs
 
 copy-requires : tie.Need-copy-requires
-copy-requires c κs = labels-length (c .before .before .before .before .before .before .before .before) ∙ sym (c .before .before .before .before .before .before .before .before .pre .0)
+copy-requires c κs = let t = c .before .before .before .before .before .before .before .before in labels-length t ∙ sym (t .pre .0)
 
 slice-aggregate-copy-2 : tie.Need-slice-aggregate-copy-2
 slice-aggregate-copy-2 c = search needs
 
 copy-requires-2 : tie.Need-copy-requires-2
-copy-requires-2 c κs = entries-length (c .before .before .before .before .before .before .before .before .before .before .before .before .before) ∙ sym (c .before .before .before .before .before .before .before .before .before .before .before .before .before .pre .1)
+copy-requires-2 c κs =
+    let t = c .before .before .before .before .before .before .before .before .before .before .before .before .before in
+    entries-length t ∙ sym (t .pre .1)
 
 slice-aggregate-copy-3 : tie.Need-slice-aggregate-copy-3
 slice-aggregate-copy-3 c = search needs
 
 copy-requires-3 : tie.Need-copy-requires-3
-copy-requires-3 c κs = stored-length (c .before .before .before .before .before .before .before .before .before .before .before .before .before .before .before .before .before .before) ∙ sym (c .before .before .before .before .before .before .before .before .before .before .before .before .before .before .before .before .before .before .pre .2)
+copy-requires-3 c κs =
+    let t = c .before .before .before .before .before .before .before .before .before .before in
+    let u = t .before .before .before .before .before .before .before .before in
+    stored-length u ∙ sym (u .pre .2)
 
 same-length : tie.Need-same-length
 same-length c = search needs

@@ -1,7 +1,7 @@
 -- `panel_of` meets its contract.
 -- Assumes nothing.
-use Rattle.clavirost.proofs.Handing.{panel-made}
 use borrow.Author.Needs.{needs}
+use Rattle.clavirost.proofs.Handing.{panel-made}
 use Rattle.clavirost.proofs.panel_of.Statement.{statement}
 use Rattle.clavirost.proofs.panel_of.Tie as tie
 
@@ -15,7 +15,8 @@ thirty-two-requires-2 : tie.Need-thirty-two-requires-2
 thirty-two-requires-2 c κs = search needs
 
 returns : tie.Need-returns
-returns c = panel-made _ _ _ _ _ _ _ _ (c .before .before .thirty-two .ensures) (c .before .all-entries .ensures) (c .thirty-two2 .ensures)
+returns c =
+    panel-made _ _ _ _ _ _ _ _ (c .before .before .thirty-two .ensures) (c .before .all-entries .ensures) (c .thirty-two2 .ensures)
 
 pub panel-of-spec : {M : Type 1} → statement M
 panel-of-spec =

@@ -2,24 +2,27 @@
 -- Assumes nothing.
 use mathlib.Core.Path.{sym, _∙_}
 use Rattle.scheme.proofs.Refusals.{gone, stands}
-use borrow.Author.Needs.{needs}
 use Rattle.clavirost.proofs.places_refusal.Statement.{statement}
 use Rattle.clavirost.proofs.places_refusal.Tie as tie
 
 numbers-refusal-requires : tie.Need-numbers-refusal-requires
-numbers-refusal-requires c κs = search needs
+numbers-refusal-requires c κs = tt
 
 returns : tie.Need-returns
 returns c = stands _ (c .before .numbers-refusal .ensures) (c .if1 .taken)
 
 places-right-requires : tie.Need-places-right-requires
-places-right-requires c κs = search needs
+places-right-requires c κs = tt
 
 returns-2 : tie.Need-returns-2
-returns-2 c = simp (gone (c .before .before .before .numbers-refusal .ensures) (c .before .before .if1 .left), sym (c .before .places-right .ensures) ∙ c .if2 .taken)
+returns-2 c =
+    let i = c .before .before in
+    simp (gone (i .before .numbers-refusal .ensures) (i .if1 .left), sym (c .before .places-right .ensures) ∙ c .if2 .taken)
 
 returns-3 : tie.Need-returns-3
-returns-3 c = simp (gone (c .before .before .before .numbers-refusal .ensures) (c .before .before .if1 .left), sym (c .before .places-right .ensures) ∙ c .if2 .left)
+returns-3 c =
+    let i = c .before .before in
+    simp (gone (i .before .numbers-refusal .ensures) (i .if1 .left), sym (c .before .places-right .ensures) ∙ c .if2 .left)
 
 pub places-refusal-spec : {M : Type 1} → statement M
 places-refusal-spec =

@@ -1,7 +1,6 @@
 -- `places_right` meets its contract.
 -- Assumes nothing.
 use borrow.Author.Tests.{ne-eqb, eq-eqb}
-use borrow.Author.Needs.{needs}
 use Rattle.clavirost.proofs.places_right.Statement.{statement}
 use Rattle.clavirost.proofs.places_right.Tie as tie
 
@@ -9,7 +8,7 @@ returns : tie.Need-returns
 returns c = simp (ne-eqb _ _ (c .if1 .taken))
 
 both-same-requires : tie.Need-both-same-requires
-both-same-requires c κs = search needs
+both-same-requires c κs = tt
 
 returns-2 : tie.Need-returns-2
 returns-2 c = simp (eq-eqb _ _ (c .before .if1 .left), c .both-same .ensures)
