@@ -27,12 +27,12 @@ use Rattle.reading.specs.Says.{ReadSays}
 use Rattle.sheets.specs.declared.Written.{Written}
 use Rattle.sheets.specs.Says.{LineSays}
 use Rattle.clavirost.specs.Numbers.{outcomeNumber, askNumber, joinedNumber, productNumber, thresholdNumber}
-use Rattle.clavirost.specs.Numbers.{madeNumber, writtenNumber}
+use Rattle.clavirost.specs.Numbers.{writtenNumber}
 use Rattle.clavirost.specs.Numbers.{codeAfter, setAfter, sizeAfter}
 use Rattle.clavirost.specs.Told.{Told, shapeOf, DealTold, AskTold, JoinTold, ProductTold, ThresholdTold}
 use Rattle.clavirost.specs.Told.{WriteTold, LineTold, RuleTold, ReadTold}
 
--- The call was handed the scheme's numbers, as one record s, by C as four.
+-- A call on a scheme: it was handed s for the four numbers t.
 told : {A : Type 0} (number : A → ℕ) (Permits : Shape → A → Type 0) (s t : Shape) (a : A) (x : ℕ) → s ≡ t → Permits s a → x ≡ number a
     → Told number (Permits t) x
 told number Permits s t a x q h e = record { answer = a; permits = subst (λ (s : Shape). Permits s a) q h; is = e }

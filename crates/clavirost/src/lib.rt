@@ -405,7 +405,7 @@ fn hand_back(told: Told, cards: &mut u32, stored: &mut [u32]) -> u32
     outcome_number(said)
 }
 
-// The lists of a panel.
+// The lists of a panel, laid over the places that C lends for them.
 fn hand_over(a: Panel, labels: &mut [u32], entries: &mut [u32], stored: &mut [u32])
     requires { ⌜ (length (now labels) ≡ 32) × (length (now entries) ≡ 384) × (length (now stored) ≡ 32) ⌝ }
     ensures { λ _. ⌜ (now (labels .exit) ≡ a .labels) × (now (entries .exit) ≡ a .entries) × (now (stored .exit) ≡ a .stored) ⌝ }

@@ -1,6 +1,6 @@
 -- `clavirost_panel_code` meets its contract, as putting in does.
 -- Assumes nothing.
-use Rattle.clavirost.proofs.Handing.{free, code-refused, code-told}
+use Rattle.clavirost.proofs.Handing.{accepted-lengths, code-refused, code-told}
 use Rattle.clavirost.proofs.clavirost_panel_code.Statement.{statement}
 use Rattle.clavirost.proofs.clavirost_panel_code.Tie as tie
 
@@ -20,7 +20,7 @@ returns c =
 panel-of-requires : tie.Need-panel-of-requires
 panel-of-requires c κs =
     let a = c .before .before .before .before .before .before .args in
-    free _ (a .labels .now) (a .entries .now) (a .stored .now) _ (c .before .places-refusal .ensures) (c .if1 .left)
+    accepted-lengths _ (a .labels .now) (a .entries .now) (a .stored .now) _ (c .before .places-refusal .ensures) (c .if1 .left)
 
 code-requires : tie.Need-code-requires
 code-requires c κs = tt

@@ -1,7 +1,7 @@
 -- `clavirost_panel_new` meets its contract: a call that is not refused has its lists' places, and the panel is fresh.
 -- Assumes nothing.
 use borrow.Author.Needs.{needs}
-use Rattle.clavirost.proofs.Handing.{fresh-right, fresh-refused, fresh-told}
+use Rattle.clavirost.proofs.Handing.{fresh-lengths, fresh-refused, fresh-told}
 use Rattle.clavirost.proofs.clavirost_panel_new.Statement.{statement}
 use Rattle.clavirost.proofs.clavirost_panel_new.Tie as tie
 
@@ -38,8 +38,8 @@ hand-over-requires c κs =
     let i = c .before .before .before .before .before in
     let s = i .before .before .before .before .before .before in
     let a = s .before .before .before .before .before .before .args in
-    fresh-right _ _ (s .shape .ensures) (a .labels .now) (a .entries .now) (a .panel-labels .now) (a .panel-entries .now) (a .cards .now)
-    (a .stored .now) _ _ (i .before .before .places-right .ensures) (i .before .refusal .ensures) (i .if1 .left)
+    fresh-lengths _ _ (s .shape .ensures) (a .labels .now) (a .entries .now) (a .panel-labels .now) (a .panel-entries .now)
+    (a .cards .now) (a .stored .now) _ _ (i .before .before .places-right .ensures) (i .before .refusal .ensures) (i .if1 .left)
 
 same-length-4 : tie.Need-same-length-4
 same-length-4 c = search needs
