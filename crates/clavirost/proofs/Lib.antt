@@ -1,0 +1,4 @@
+pub mod Copies
+pub mod Telling
+pub mod Handing
+pub mod Settled
