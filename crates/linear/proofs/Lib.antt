@@ -9,3 +9,4 @@ pub mod Rows
 pub mod Handed
 pub mod Flat
 pub mod Summing
+pub mod Decided

@@ -18,7 +18,8 @@ use Rattle.ask.specs.Says.{AskSays}
 use Rattle.ask.proofs.Says.{ask-answers, settled}
 use Rattle.marked.specs.Only.{Opens, Closes, Asks}
 use Rattle.marked.proofs.Parts.{three}
-use Rattle.marked.proofs.Decided.{decided, decided-opens, decided-closes}
+use Rattle.linear.proofs.Decided.{decided}
+use Rattle.marked.proofs.Decided.{decided-opens, decided-closes}
 
 module _ (s : Shape) (labels entries : List ℕ) (scheme : IsScheme s labels entries) where
   pub given : Valid s labels entries

@@ -17,7 +17,8 @@ use Rattle.product.specs.Says.{ProductHanded, ProductSays}
 use Rattle.product.proofs.Says.{product-answers, says-yes, says-no, settled}
 use Rattle.marked.specs.Only.{Products, ProductYes, ProductNo}
 use Rattle.marked.proofs.Parts.{three}
-use Rattle.marked.proofs.Decided.{decided, decided-opens, decided-closes}
+use Rattle.linear.proofs.Decided.{decided}
+use Rattle.marked.proofs.Decided.{decided-opens, decided-closes}
 use Rattle.marked.proofs.Asked.{given}
 
 module _ (s : Shape) (labels entries : List ℕ) (scheme : IsScheme s labels entries) where

@@ -29,8 +29,16 @@ fn say(check: u32) {
     io::write_all(STDOUT_FILENO, b"\n");
 }
 
+// The same of the first n bytes.
+fn check_first(before: u32, by: u32, out: &[u8], n: usize) -> u32 {
+    if out.len() < n {
+        return before;
+    }
+    check_of(before, by, &out[0..n])
+}
+
 // Prints the checks of a file's sheet, once its first empty part was seen.
-fn print_checks(file: &[u8], out: &mut [u8]) {
+fn print_checks(file: &[u8], out: &mut [u8; 1048576]) {
     let mut first = 0;
     let mut second = 0;
     let mut k = 0;
@@ -41,11 +49,8 @@ fn print_checks(file: &[u8], out: &mut [u8]) {
             say(second);
             return;
         }
-        if out.len() < n {
-            return;
-        }
-        first = check_of(first, 31, &out[0..n]);
-        second = check_of(second, 257, &out[0..n]);
+        first = check_first(first, 31, out, n);
+        second = check_first(second, 257, out, n);
         k += 1;
     }
 }
@@ -55,7 +60,7 @@ fn answer(full: bool, file: &[u8]) {
         sheet_out::print(file);
         return;
     }
-    let mut space = sheet_out::places();
+    let mut space = [0u8; 1048576];
     print_checks(file, &mut space);
 }
 
