@@ -131,7 +131,13 @@ next-line-requires c κs =
           c .before .before .before .before .before .before .before .before .before .ratio .ensures .1,
           (
             (λ lp i. let h = s .pre .1 .1 .1 i in omega arith),
-            (st .lows, λ j lj. let h = st .pivs j lj in omega (arith, s .pre .1 .0 .3, s .pre .1 .0 .2)),
+            (
+              st .lows,
+              (
+                (λ j lj. let h = st .pivs j lj in omega (arith, s .pre .1 .0 .3, s .pre .1 .0 .2)),
+                state-stepped _ _ _ _ _ _ _ (s .pre .0) st,
+              ),
+            ),
           ),
         ),
       ),

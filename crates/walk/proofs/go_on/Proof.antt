@@ -98,7 +98,13 @@ next-line-requires c κs =
           s .pre .1 .1 .1 .0,
           (
             (λ lp i. let h = s .pre .1 .1 .0 i in omega arith),
-            (st .lows, λ j lj. let h = st .pivs j (omega (arith, l .inv .2)) in omega arith),
+            (
+              st .lows,
+              (
+                (λ j lj. let h = st .pivs j (omega (arith, l .inv .2)) in omega arith),
+                subst⁻¹ (Stepped (a .p) (l .t)) (l .inv .2) (state-stepped _ _ _ _ _ _ _ (s .pre .0) st),
+              ),
+            ),
           ),
         ),
       ),
