@@ -10,6 +10,7 @@ use Rattle.lists.proofs.Store.{row-fits}
 use Rattle.linear.specs.Bits.{bit}
 use Rattle.linear.specs.Flat.{entry}
 use Rattle.rows.specs.State.{Unmet}
+use Rattle.rows.proofs.Ends.{state-stepped}
 use Rattle.rows.proofs.Turns.{store-room}
 use Rattle.rows.proofs.Verdict.{unmet-start, unmet-next}
 use Rattle.threshold.proofs.Search.{KeptBelow, Told, not-here, told-closed, told-open, set-keeps, set-breaks}
