@@ -27,6 +27,14 @@ at t j i = getD (getD t j []) i 0
 abbrev pub Pivots : List (List ℕ) → ℕ → Type 0
 Pivots t s = (j : ℕ) → j < s → at t j 25 < 12
 
+-- Modulo p, each of the first s lines has 1 at its own pivot and 0 at the pivots of the lines before it.
+abbrev pub Stepped : ℕ → List (List ℕ) → ℕ → Type 0
+Stepped p t s = (j : ℕ) → j < s → (at t j (at t j 25) % p ≡ 1) × ((l : ℕ) → j < l → l < s → at t l (at t j 25) % p ≡ 0)
+
+-- A place of m that is not 0 is the pivot of one of the first s lines.
+abbrev pub PivotMarks : List (List ℕ) → ℕ → List ℕ → Type 0
+PivotMarks t s m = (i : ℕ) → (getD m i 0 ≡ 0 → ⊥) → (j : ℕ) × (j < s) × (at t j 25 ≡ i)
+
 -- The first s factors of v times place i of the first s lines.
 abbrev pub colSum : List ℕ → List (List ℕ) → ℕ → ℕ → ℕ
 colSum v t s i = total s (λ l. getD v (12 + l) 0 * at t l i)
@@ -34,6 +42,10 @@ colSum v t s i = total s (λ l. getD v (12 + l) 0 * at t l i)
 -- The first e places of v times those of line j.
 abbrev pub rowSum : List ℕ → List (List ℕ) → ℕ → ℕ → ℕ
 rowSum v t j e = total e (λ i. getD v i 0 * at t j i)
+
+-- By the factors of v, the first s lines leave nothing at their pivots.
+abbrev pub Cleared : ℕ → List (List ℕ) → List ℕ → ℕ → Type 0
+Cleared p t v s = (j : ℕ) → j < s → (getD v (at t j 25) 0 + colSum v t s (at t j 25)) % p ≡ 0
 
 -- g is v with the first j factors, those that clear the pivots of the first j lines.
 pub record Factored (p : ℕ) (t : List (List ℕ)) (v g : List ℕ) (j : ℕ) : Type 0 where

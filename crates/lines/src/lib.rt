@@ -6,7 +6,7 @@ ghost use mathlib.Core.List.{[]};
 ghost use Prim.Native.Nat.{ℕ, _<_, _≤_, _%_, _*_, _+_, _-_};
 ghost use lib.ListN.{length, getD};
 ghost use Rattle.residue.specs.Prime.{Prime};
-ghost use Rattle.lines.specs.Line.{Low, Lows, Ratio, Pivots, colSum, rowSum, Factored, Changed, Lined, Shaped};
+ghost use Rattle.lines.specs.Line.{Low, Lows, Ratio, Pivots, Stepped, Cleared, PivotMarks, colSum, rowSum, Factored, Changed, Lined, Shaped};
 
 // x y, reduced where the modulus has more than 16 bits: below 2^32 either way, so that a sum of 13 of them fits 64 bits.
 fn term(p: u32, x: u32, y: u32) -> u64
@@ -88,17 +88,43 @@ fn factors(p: u32, inv: u64, s: usize, v: [u32; 27], t: &[[u32; 27]; 12]) -> [u3
     g
 }
 
-// What the first s lines leave of v, by its factors.
+// Marks the places that are pivots of the first s lines.
+fn pivot_marks(s: usize, t: &[[u32; 27]; 12]) -> [u32; 12]
+    requires { ⌜ s ≤ 12 ⌝ }
+    requires { ⌜ Pivots (now t) s ⌝ }
+    ensures { λ r. ⌜ PivotMarks (now (t .entry)) s r ⌝ }
+{
+    let mut m = [0u32; 12];
+    let mut j = 0;
+    while j < s {
+        let b = t[j][25];
+        let c = b as usize;
+        m[c] = 1;
+        j += 1;
+    }
+    m
+}
+
+// What the first s lines leave of v, by its factors. They leave nothing at their pivots, so no sum is made there.
 fn rest(p: u32, inv: u64, s: usize, e: usize, v: [u32; 27], t: &[[u32; 27]; 12]) -> [u32; 27]
     requires { ⌜ (0 < p) × (s ≤ 12) × (e ≤ 12) ⌝ }
     requires { ⌜ Ratio p inv ⌝ }
     requires { ⌜ Low p v ⌝ }
     requires { ⌜ Lows p (now t) ⌝ }
+    requires { ⌜ Pivots (now t) s ⌝ }
+    requires { ⌜ Cleared p (now t) v s ⌝ }
     ensures { λ r. ⌜ Changed p e (λ i. (getD v i 0 + colSum v (now (t .entry)) s i) % p) v r ⌝ }
 {
+    let m = pivot_marks(s, t);
     let mut x = v;
     let mut i = 0;
     while i < e {
+        let b = m[i];
+        if b != 0 {
+            x[i] = 0;
+            i += 1;
+            continue;
+        }
         let a = v[i];
         let y = col_dot(p, inv, a, &v, t, s, i);
         x[i] = y;
@@ -179,6 +205,7 @@ pub fn line(
     requires { ⌜ Low p row ⌝ }
     requires { ⌜ Lows p (now t) ⌝ }
     requires { ⌜ Pivots (now t) s ⌝ }
+    requires { ⌜ Stepped p (now t) s ⌝ }
     ensures shape { λ r. ⌜ Shaped p e r ⌝ }
     ensures made { λ r. ⌜ Lined p e k s (now (t .entry)) (λ i. getD row i 0) r ⌝ }
 {

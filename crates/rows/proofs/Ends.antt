@@ -4,12 +4,15 @@ use mathlib.Core.Path.{_≡_, refl, ap, _∙_, subst, subst⁻¹}
 use mathlib.Core.List.{List}
 use mathlib.Core.Bool.{Bool, true, false}
 use Prim.Native.Nat.{ℕ, suc, _<_, _+_, _-_}
+use native.Mathlib.Nat.{mod-eq-of-lt}
 use native.Mathlib.Omega.{arith}
 use lib.ListN.{length, getD}
 use Rattle.residue.specs.Prime.{Prime}
+use Rattle.residue.specs.Residue.{res}
+use Rattle.residue.proofs.Field.{res-zero}
 use Rattle.linear.specs.Flat.{place, entry}
 use Rattle.linear.specs.Rows.{OpeningVector, Witness, Rank}
-use Rattle.lines.specs.Line.{at}
+use Rattle.lines.specs.Line.{at, Stepped}
 use Rattle.backward.specs.Solution.{Killed}
 use Rattle.linear.specs.Bits.{bit}
 use Rattle.rows.specs.Answered.{Answered}
@@ -26,6 +29,14 @@ going-length p f d E chosen k s t r₀ false r g = ap length (g .if-closed refl 
 pub sources : (p f : ℕ) (E : ℕ → ℕ → ℕ) (chosen : ℕ → Bool) (k s : ℕ) (t : List (List ℕ)) → Prime p → State p f E chosen k s t → (j : ℕ)
     → j < s → at t j 26 < k
 sources p f E chosen k s t H st j l = st .basis H .upto j l
+
+-- Each line is 1 at its own pivot and 0 at those of the lines before it.
+pub state-stepped : (p f : ℕ) (E : ℕ → ℕ → ℕ) (chosen : ℕ → Bool) (k s : ℕ) (t : List (List ℕ)) → Prime p → State p f E chosen k s t
+    → Stepped p t s
+state-stepped p f E chosen k s t H st j l = (
+  ap (λ a. a .0) (st .basis H .one j l) ∙ mod-eq-of-lt (H .two),
+  λ i lj li. res-zero p H (res p H (at t i (at t j 25))) (st .basis H .low i li j lj),
+)
 
 -- A line with a pivot has an inverse below p.
 pub next-inverse : (p e k s : ℕ) (w : Bool) (m : List ℕ) (t : List (List ℕ)) (v : List ℕ) → Next p e k s w m t v → getD v 25 0 + 1 ≡ e

@@ -7,7 +7,7 @@ ghost use Prim.Native.Nat.{ℕ, _<_, _≤_, _%_, _*_, _+_, _-_};
 ghost use lib.Dec.{ltb};
 ghost use lib.ListN.{length, getD, set};
 ghost use Rattle.residue.specs.Prime.{Prime};
-ghost use Rattle.lines.specs.Line.{Low, Lows, Ratio, Pivots, at};
+ghost use Rattle.lines.specs.Line.{Low, Lows, Ratio, Pivots, Stepped, at};
 ghost use Rattle.backward.specs.Solution.{Opened};
 ghost use Rattle.linear.specs.Bits.{bit};
 ghost use Rattle.rows.specs.Answered.{Answered};
@@ -66,6 +66,7 @@ pub fn next_line(
     requires { ⌜ Low p (now entries) ⌝ }
     requires { ⌜ Lows p (now t) ⌝ }
     requires { ⌜ Pivots (now t) s ⌝ }
+    requires { ⌜ Stepped p (now t) s ⌝ }
     ensures { λ r. ⌜ Next p e k s (ltb s e && bit chosen k) (now (entries .entry)) (now (t .entry)) r ⌝ }
 {
     if wanted(e, chosen, k, s) {

@@ -5,17 +5,27 @@ use Prim.Native.Nat.{_<_}
 use native.Mathlib.Omega.{arith}
 use borrow.Author.Needs.{needs}
 use Rattle.lines.proofs.Laws.{rested-whole, lined-none, lined-some}
+use Rattle.lines.proofs.Clear.{cleared}
 use Rattle.lines.proofs.line.Statement.{statement}
 use Rattle.lines.proofs.line.Tie as tie
 
 factors-requires : tie.Need-factors-requires
-factors-requires c κs = ((omega (arith, c .pre .0 .two), c .pre .1 .0 .2), c .pre .1 .1)
+factors-requires c κs =
+    let h = c .pre .1 .1 in
+    ((omega (arith, c .pre .0 .two), c .pre .1 .0 .2), (h .0, (h .1 .0, (h .1 .1 .0, h .1 .1 .1 .0))))
 
 rest-requires : tie.Need-rest-requires
 rest-requires c κs =
     let s = c .before in
     let h = s .pre .1 in
-    ((omega (arith, s .pre .0 .two), h .0 .2, h .0 .0), (h .1 .0, (c .factors .ensures .low, h .1 .1 .1 .0)))
+    let pos : 0 < s .args .p = omega (arith, s .pre .0 .two) in
+    let pivs = h .1 .1 .1 .1 .0 in (
+      (pos, h .0 .2, h .0 .0),
+      (
+        h .1 .0,
+        (c .factors .ensures .low, (h .1 .1 .1 .0, (pivs, cleared pos pivs (h .1 .1 .1 .1 .1) (c .factors .ensures)))),
+      ),
+    )
 
 find-requires : tie.Need-find-requires
 find-requires c κs = c .before .before .before .pre .1 .0 .0

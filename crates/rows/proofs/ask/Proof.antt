@@ -10,7 +10,7 @@ use Rattle.rows.specs.State.{Going}
 use Rattle.linear.specs.Bits.{bit}
 use Rattle.linear.specs.Flat.{entry}
 use Rattle.lists.proofs.Store.{row-fits}
-use Rattle.rows.proofs.Ends.{going-length, sources, next-inverse, answered-open, answered-closed}
+use Rattle.rows.proofs.Ends.{going-length, sources, state-stepped, next-inverse, answered-open, answered-closed}
 use Rattle.rows.proofs.Turns.{going-start, going-next, store-room}
 use Rattle.rows.proofs.ask.Statement.{statement}
 use Rattle.rows.proofs.ask.Tie as tie
@@ -56,7 +56,10 @@ next-line-requires c κs =
         ),
         (
           c .before .before .before .before .ratio .ensures .1,
-          ((λ lp i. let h = s .pre .1 .1 i in omega arith), (st .lows, λ j lj. let h = st .pivs j lj in omega arith)),
+          (
+            (λ lp i. let h = s .pre .1 .1 i in omega arith),
+            (st .lows, ((λ j lj. let h = st .pivs j lj in omega arith), state-stepped _ _ _ _ _ _ _ (s .pre .0) st)),
+          ),
         ),
       ),
     )

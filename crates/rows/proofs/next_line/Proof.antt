@@ -19,7 +19,7 @@ line-requires c κs =
       s .pre .0,
       (
         (s .pre .1 .0 .1, omega arith, s .pre .1 .0 .3),
-        (s .pre .1 .1 .0, (c .load .ensures .0, (s .pre .1 .1 .1 .1 .0, s .pre .1 .1 .1 .1 .1))),
+        (s .pre .1 .1 .0, (c .load .ensures .0, s .pre .1 .1 .1 .1)),
       ),
     )
 

@@ -10,6 +10,7 @@ use Rattle.lists.proofs.Store.{row-fits}
 use Rattle.linear.specs.Bits.{bit}
 use Rattle.linear.specs.Flat.{entry}
 use Rattle.rows.specs.State.{Unmet}
+use Rattle.rows.proofs.Ends.{state-stepped}
 use Rattle.rows.proofs.Turns.{store-room}
 use Rattle.rows.proofs.Verdict.{unmet-start, unmet-next}
 use Rattle.threshold.proofs.Search.{KeptBelow, Told, not-here, told-closed, told-open, set-keeps, set-breaks}
@@ -131,7 +132,13 @@ next-line-requires c κs =
           c .before .before .before .before .before .before .before .before .before .ratio .ensures .1,
           (
             (λ lp i. let h = s .pre .1 .1 .1 i in omega arith),
-            (st .lows, λ j lj. let h = st .pivs j lj in omega (arith, s .pre .1 .0 .3, s .pre .1 .0 .2)),
+            (
+              st .lows,
+              (
+                (λ j lj. let h = st .pivs j lj in omega (arith, s .pre .1 .0 .3, s .pre .1 .0 .2)),
+                state-stepped _ _ _ _ _ _ _ (s .pre .0) st,
+              ),
+            ),
           ),
         ),
       ),

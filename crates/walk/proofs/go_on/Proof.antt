@@ -1,16 +1,17 @@
 -- `walk::go_on` meets its contract. The loop keeps `Marks` (specs/Going.antt), and s is the count at row k.
 -- Assumes nothing.
-use mathlib.Core.Path.{_≡_, refl, sym, ap, _∙_}
+use mathlib.Core.Path.{_≡_, refl, sym, ap, _∙_, subst⁻¹}
 use Prim.Native.Nat.{ℕ, _≤_, _+_, _-_}
 use native.Mathlib.Omega.{arith}
 use lib.ListN.{length}
 use lib.Seq.{getD-set-same}
 use lib.Dec.{eqb}
 use borrow.Author.Needs.{needs}
-use Rattle.rows.proofs.Ends.{sources, next-inverse}
+use Rattle.rows.proofs.Ends.{sources, next-inverse, state-stepped}
 use Rattle.rows.proofs.Turns.{store-room}
 use Rattle.linear.specs.Flat.{place, entry}
 use Rattle.linear.specs.Bits.{bit}
+use Rattle.lines.specs.Line.{Stepped}
 use Rattle.lists.proofs.Store.{row-fits}
 use Rattle.walk.proofs.Marks.{it-is-here, it-is-not-here, walked-end, unmet-here, marks-next, marks-skip, opens-here, stored-fits}
 use Rattle.walk.specs.Going.{Marks}
@@ -98,7 +99,13 @@ next-line-requires c κs =
           s .pre .1 .1 .1 .0,
           (
             (λ lp i. let h = s .pre .1 .1 .0 i in omega arith),
-            (st .lows, λ j lj. let h = st .pivs j (omega (arith, l .inv .2)) in omega arith),
+            (
+              st .lows,
+              (
+                (λ j lj. let h = st .pivs j (omega (arith, l .inv .2)) in omega arith),
+                subst⁻¹ (Stepped (a .p) (l .t)) (l .inv .2) (state-stepped _ _ _ _ _ _ _ (s .pre .0) st),
+              ),
+            ),
           ),
         ),
       ),
