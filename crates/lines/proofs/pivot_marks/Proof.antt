@@ -1,7 +1,7 @@
 -- `lines::pivot_marks` meets its contract: the loop has marked the pivots of the first j lines and nothing else.
 -- Assumes nothing.
 use mathlib.Core.Logic.{⊎-elim}
-use mathlib.Core.Path.{_≡_, refl, subst, _∙_}
+use mathlib.Core.Path.{_≡_, refl, subst}
 use Prim.Native.Nat.{ℕ, _≤_, _-_}
 use native.Mathlib.Omega.{arith}
 use lib.ListN.{length, length-set, replicate, getD-replicate, List·getD-eq-default}
@@ -42,7 +42,7 @@ mul-m : tie.Need-mul-m Inv-loop μ-loop
 mul-m c = omega (arith, c .before .before .before .pre .1 (c .before .before .loop .j) (omega arith))
 
 array-write-m : tie.Need-array-write-m Inv-loop μ-loop
-array-write-m c = c .before .before .before .pre .1 (c .before .before .loop .j) (omega arith)
+array-write-m c = omega (arith, c .before .before .before .pre .1 (c .before .before .loop .j) (omega arith))
 
 add-j : tie.Need-add-j Inv-loop μ-loop
 add-j c = search needs
@@ -54,7 +54,7 @@ loop-again : tie.Need-loop-again Inv-loop μ-loop
 loop-again c =
     let t = c .before .before .before .args .t .now in
     let l = c .before .before .loop in
-    (omega arith, length-set (l .m) (at t (l .j) 25) 1 ∙ l .inv .1, marks-turn t (l .m) (l .j) (at t (l .j) 25) 1 (l .inv .2) refl)
+    (omega arith, simp length-set (l .inv .1), marks-turn t (l .m) (l .j) (at t (l .j) 25) 1 (l .inv .2) refl)
 
 returns : tie.Need-returns Inv-loop μ-loop
 returns c =
