@@ -4,7 +4,7 @@ use mathlib.Core.Logic.{⊎-elim}
 use mathlib.Core.Path.{_≡_, refl, subst}
 use Prim.Native.Nat.{ℕ, _≤_, _-_}
 use native.Mathlib.Omega.{arith}
-use lib.ListN.{length, length-set, replicate, getD-replicate, List·getD-eq-default}
+use lib.ListN.{length, getD, length-set, replicate, getD-replicate, List·getD-eq-default}
 use borrow.Author.Needs.{needs}
 use Rattle.algebra.proofs.Cases.{lt-or-ge}
 use Rattle.lines.specs.Line.{at, PivotMarks}
@@ -18,12 +18,14 @@ Inv-loop s t m₀ j₀ m j = (j ≤ s) × (length m ≡ 12) × PivotMarks t j m
 abbrev μ-loop : tie.MeasureT-loop
 μ-loop s t m₀ j₀ m j = s - j
 
+none : (i : ℕ) → getD {A = ℕ} (replicate 12 0) i 0 ≡ 0
+none i = ⊎-elim (λ l. getD-replicate 12 i 0 0 l) (λ l. List·getD-eq-default (replicate 12 0) 0 l) (lt-or-ge i 12)
+
 loop-holds : tie.Need-loop-holds Inv-loop μ-loop
 loop-holds c = (
   omega arith,
   refl,
-  marks-start (c .args .t .now) (replicate 12 0) (λ i. ⊎-elim (λ l. getD-replicate 12 i 0 0 l) (λ l. List·getD-eq-default (replicate 12 0) 0 l)
-      (lt-or-ge i 12)),
+  marks-start (c .args .t .now) (replicate 12 0) none,
 )
 
 mul-b : tie.Need-mul-b Inv-loop μ-loop
