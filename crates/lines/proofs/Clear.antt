@@ -1,13 +1,12 @@
--- Why nothing is left at a pivot: the factor of line j takes off what is there, and the lines after it are 0 there.
+-- Nothing is left at a pivot: the factor of line j takes off what is there, and the lines after it are 0 there. And the marks of pivots.
 -- Assumes nothing.
 use mathlib.Core.Path.{_≡_, sym, ap, ap₂, _∙_}
 use mathlib.Core.List.{List}
 use mathlib.Core.Logic.{⊎-elim}
 use Prim.Native.Nat.{ℕ, zero, suc, _+_, _-_, _*_, _%_, _<_, _≤_}
 use native.Mathlib.Nat.{add-mod, zero-mod}
-use native.Mathlib.Numerals.{add-one}
 use native.Mathlib.Omega.{arith}
-use lib.ListN.{length, getD, set}
+use lib.ListN.{getD, set}
 use lib.Seq.{getD-set-other}
 use Rattle.algebra.proofs.Cases.{lt-or-ge, same?}
 use Rattle.residue.proofs.Modulo.{mul-mod-mod, mod-neg-back}

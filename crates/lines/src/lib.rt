@@ -6,7 +6,8 @@ ghost use mathlib.Core.List.{[]};
 ghost use Prim.Native.Nat.{ℕ, _<_, _≤_, _%_, _*_, _+_, _-_};
 ghost use lib.ListN.{length, getD};
 ghost use Rattle.residue.specs.Prime.{Prime};
-ghost use Rattle.lines.specs.Line.{Low, Lows, Ratio, Pivots, Stepped, Cleared, PivotMarks, colSum, rowSum, Factored, Changed, Lined, Shaped};
+ghost use Rattle.lines.specs.Line.{Low, Lows, Ratio, Pivots, Stepped, PivotMarks, colSum, rowSum};
+ghost use Rattle.lines.specs.Line.{Factored, Cleared, Changed, Lined, Shaped};
 
 // x y, reduced where the modulus has more than 16 bits: below 2^32 either way, so that a sum of 13 of them fits 64 bits.
 fn term(p: u32, x: u32, y: u32) -> u64

@@ -1,10 +1,10 @@
 -- `lines::pivot_marks` meets its contract: the loop has marked the pivots of the first j lines and nothing else.
 -- Assumes nothing.
 use mathlib.Core.Logic.{⊎-elim}
-use mathlib.Core.Path.{_≡_, refl, subst, _∙_}
+use mathlib.Core.Path.{_≡_, refl, subst}
 use Prim.Native.Nat.{ℕ, _≤_, _-_}
 use native.Mathlib.Omega.{arith}
-use lib.ListN.{length, length-set, replicate, getD-replicate, List·getD-eq-default}
+use lib.ListN.{length, getD, length-set, replicate, getD-replicate, List·getD-eq-default}
 use borrow.Author.Needs.{needs}
 use Rattle.algebra.proofs.Cases.{lt-or-ge}
 use Rattle.lines.specs.Line.{at, PivotMarks}
@@ -18,12 +18,14 @@ Inv-loop s t m₀ j₀ m j = (j ≤ s) × (length m ≡ 12) × PivotMarks t j m
 abbrev μ-loop : tie.MeasureT-loop
 μ-loop s t m₀ j₀ m j = s - j
 
+none : (i : ℕ) → getD {A = ℕ} (replicate 12 0) i 0 ≡ 0
+none i = ⊎-elim (λ l. getD-replicate 12 i 0 0 l) (λ l. List·getD-eq-default (replicate 12 0) 0 l) (lt-or-ge i 12)
+
 loop-holds : tie.Need-loop-holds Inv-loop μ-loop
 loop-holds c = (
   omega arith,
   refl,
-  marks-start (c .args .t .now) (replicate 12 0) (λ i. ⊎-elim (λ l. getD-replicate 12 i 0 0 l) (λ l. List·getD-eq-default (replicate 12 0) 0 l)
-      (lt-or-ge i 12)),
+  marks-start (c .args .t .now) (replicate 12 0) none,
 )
 
 mul-b : tie.Need-mul-b Inv-loop μ-loop
@@ -42,7 +44,7 @@ mul-m : tie.Need-mul-m Inv-loop μ-loop
 mul-m c = omega (arith, c .before .before .before .pre .1 (c .before .before .loop .j) (omega arith))
 
 array-write-m : tie.Need-array-write-m Inv-loop μ-loop
-array-write-m c = c .before .before .before .pre .1 (c .before .before .loop .j) (omega arith)
+array-write-m c = omega (arith, c .before .before .before .pre .1 (c .before .before .loop .j) (omega arith))
 
 add-j : tie.Need-add-j Inv-loop μ-loop
 add-j c = search needs
@@ -54,7 +56,7 @@ loop-again : tie.Need-loop-again Inv-loop μ-loop
 loop-again c =
     let t = c .before .before .before .args .t .now in
     let l = c .before .before .loop in
-    (omega arith, length-set (l .m) (at t (l .j) 25) 1 ∙ l .inv .1, marks-turn t (l .m) (l .j) (at t (l .j) 25) 1 (l .inv .2) refl)
+    (omega arith, simp length-set (l .inv .1), marks-turn t (l .m) (l .j) (at t (l .j) 25) 1 (l .inv .2) refl)
 
 returns : tie.Need-returns Inv-loop μ-loop
 returns c =
