@@ -89,7 +89,7 @@ fn put_line(out: &mut [u8], at: usize, p: u32, set: u32, opens: bool, vector: &[
 }
 
 // The line of a set: asked, and printed. r and z are places for its vector.
-fn put_set(
+pub fn put_set(
     out: &mut [u8],
     at: usize,
     s: Shape,

@@ -61,13 +61,6 @@ pub put-as : (Is As : List ℕ → Type 0) {before after : List ℕ} {at end : �
     → PutSome Is before at end after → PutSome As before at end after
 put-as Is As f x = record { text = x .text; is = f (x .text) (x .is); put = x .put }
 
--- The lines of one set are its line.
-pub one-line : (s : Shape) (labels entries : List ℕ) (set : ℕ) (text : List ℕ) → IsLines s labels entries set 1 text
-    → IsLine s labels entries set text
-one-line s labels entries set text x =
-    subst⁻¹ (λ t. IsLine s labels entries set t) (x .4 ∙ ap (λ t. t ++ x .1) (x .2))
-    (subst (λ (i : ℕ). IsLine s labels entries i (x .1)) (add-zero set) (x .3))
-
 -- A text that was put is some text.
 pub put-is : (b t : List ℕ) {a : List ℕ} {end : ℕ} → Put b 0 t end a → PutSome (λ text. text ≡ t) b 0 end a
 put-is b t x = record { text = t; is = refl; put = x }

@@ -6,7 +6,7 @@ ghost use Prim.Native.Nat.{_<_, _≤_, _+_, _*_, _-_, _/_, _^_, min};
 ghost use lib.ListN.{length, take};
 ghost use Rattle.scheme.specs.Refusal.{checkRefusal};
 ghost use Rattle.digits.specs.Put.{PutSome};
-ghost use Rattle.sheet_lines.specs.Lines.{IsLines};
+ghost use Rattle.sheet_lines.specs.Lines.{IsLine, IsLines};
 ghost use Rattle.sheets.specs.Sheet.{SchemePart, RefusedPart, IsPart};
 ghost use Rattle.sheets.specs.Says.{LineSays, RefusedSays, PartSays, lineRefusal};
 
@@ -56,6 +56,21 @@ fn lines(out: &mut [u8], s: Shape, labels: &[u32], entries: &[u32], first: u32, 
     )
 }
 
+// The line of a set of a scheme, with places for its vector: no places for the answers of other sets.
+fn one_line(out: &mut [u8], s: Shape, labels: &[u32], entries: &[u32], set: u32) -> usize
+    requires { ⌜ checkRefusal s (now labels) (now entries) ≡ 0 ⌝ }
+    requires { ⌜ (set + 1 ≤ 65536) × (256 ≤ length (now out)) ⌝ }
+    ensures put { λ end. ⌜ PutSome (IsLine s (now (labels .entry)) (now (entries .entry)) set)
+        (now (out .entry)) 0 end (now (out .exit)) ⌝ }
+    ensures room { λ end. ⌜ end ≤ length (now (out .entry)) ⌝ }
+{
+    let d = s.d;
+    let e = s.e;
+    let mut r = numbers();
+    let mut z = numbers();
+    sheet_lines::put_set(out, 0, s, labels, entries, set, &mut r[0..d], &mut z[0..e])
+}
+
 // Prints the line of a set: its number, OPEN or CLOSED, and the vector. Wrong answers that the contract rules out: a number past half the
 // modulus printed as it is; the witness of a closed set after the word OPEN.
 pub fn line(s: Shape, labels: &[u32], entries: &[u32], set: u32, out: &mut [u8]) -> Written
@@ -65,7 +80,7 @@ pub fn line(s: Shape, labels: &[u32], entries: &[u32], set: u32, out: &mut [u8])
     if bad != 0 {
         return Written::Refused(bad);
     }
-    Written::Bytes(lines(out, s, labels, entries, set, 1))
+    Written::Bytes(one_line(out, s, labels, entries, set))
 }
 
 // Prints the line of a refusal. Wrong answers that the contract rules out: the number without the word; a line without its end.

@@ -1,10 +1,10 @@
--- `sheets::line` meets its contract: the lines of one set are its line.
+-- `sheets::line` meets its contract: a line that is not refused is of a scheme and one of its sets.
 -- Assumes nothing.
 use lib.ListN.{length}
 use borrow.Author.Needs.{needs}
-use Rattle.sheet_lines.specs.Lines.{IsLine, IsLines}
+use Rattle.sheet_lines.specs.Lines.{IsLine}
 use Rattle.scheme.proofs.Refusals.{gone}
-use Rattle.sheets.proofs.Prints.{line-right, print-bytes, print-refused, put-as, one-line}
+use Rattle.sheets.proofs.Prints.{line-right, print-bytes, print-refused}
 use Rattle.sheets.proofs.line.Statement.{statement}
 use Rattle.sheets.proofs.line.Tie as tie
 
@@ -17,8 +17,8 @@ returns c =
     print-refused _ (IsLine (s .args .s) (s .args .labels .now) (s .args .entries .now) (s .args .set)) (s .args .out .now) _
     (c .before .line-refusal .ensures) (c .if1 .taken)
 
-lines-requires : tie.Need-lines-requires
-lines-requires c κs =
+one-line-requires : tie.Need-one-line-requires
+one-line-requires c κs =
     let a = c .before .before .before .before .before .before .args in
     line-right (a .s) (a .labels .now) (a .entries .now) (a .set) (length (a .out .now))
     (gone (c .before .before .line-refusal .ensures) (c .before .if1 .left))
@@ -32,9 +32,8 @@ returns-2 c =
     let a = s .args in
     print-bytes _ (IsLine (a .s) (a .labels .now) (a .entries .now) (a .set)) (a .out .now)
     (gone (c .before .before .before .before .before .line-refusal .ensures) (c .before .before .before .before .if1 .left))
-    (put-as (IsLines (a .s) (a .labels .now) (a .entries .now) (a .set) 1) (IsLine (a .s) (a .labels .now) (a .entries .now) (a .set))
-    (one-line (a .s) (a .labels .now) (a .entries .now) (a .set)) (c .before .before .lines .ensures .0))
-    (c .before .before .lines .ensures .1)
+    (c .before .before .one-line .ensures .0)
+    (c .before .before .one-line .ensures .1)
 
 pub line-spec : {M : Type 1} → statement M
-line-spec = tie.close (tie.spec line-refusal-requires returns lines-requires same-length returns-2)
+line-spec = tie.close (tie.spec line-refusal-requires returns one-line-requires same-length returns-2)
