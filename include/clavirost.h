@@ -118,7 +118,7 @@ uint32_t clavirost_sheet_line(uint32_t p, uint32_t n, size_t d, size_t e, const 
 
 /* Part k of the sheet of a file, in the first places; how many bytes it has. Part 0 is the heading, or for a refused file the line REFUSED with
    its number (the call then still answers 0); each later part has a line for each 256 places of `out`, the last one what is left, and the first
-   part of size 0 comes after the last line. Refusal 5 for fewer than 256 places. A longer list is a faster sheet: 262,144 places will do. */
+   part of size 0 comes after the last line. Refusal 5 for fewer than 256 places. A longer list is a faster sheet, up to 1,048,576 places. */
 uint32_t clavirost_sheet_part(const uint8_t *file, size_t file_length, uint32_t k, uint8_t *out, size_t out_length, size_t *size);
 
 #ifdef __cplusplus
