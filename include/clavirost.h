@@ -121,6 +121,18 @@ uint32_t clavirost_sheet_line(uint32_t p, uint32_t n, size_t d, size_t e, const 
    part of size 0 comes after the last line. Refusal 5 for fewer than 256 places. A longer list is a faster sheet, up to 1,048,576 places. */
 uint32_t clavirost_sheet_part(const uint8_t *file, size_t file_length, uint32_t k, uint8_t *out, size_t out_length, size_t *size);
 
+/* The deepest stack below each call, in bytes, with the largest inputs (bench/stack measures it on the compiled library):
+
+   check                80      deal                176      ask, closed       2,712
+   ask, open         2,712      join              6,632      product          31,352
+   threshold         2,408      rule, deep       16,488      rule, long       12,352
+   write               176      read                240      panel_new         1,816
+   panel_put         2,336      panel_take        2,288      panel_code        8,536
+   sheet_line        3,112      sheet_part      533,448
+
+   A set question needs less than 4 KiB, the product verdict less than 64 KiB. clavirost_sheet_part keeps the answers of up to 4,096 sets; a thread
+   with a small stack calls clavirost_sheet_line. */
+
 #ifdef __cplusplus
 }
 #endif
