@@ -1,5 +1,6 @@
-// The library's surface for C and Rust: each call under its plain name. A list is a pointer and a length; a number lent for a result is a
-// pointer. A refused call leaves every lent list and number as it was. include/clavirost.h says what each call answers.
+// The library's surface for C and Rust: each call as a function whose name begins with clavirost_. A list is a pointer and a length; a
+// number lent for a result is a pointer. A refused call leaves every lent list and number as it was. include/clavirost.h says what each
+// call answers. The contracts rule out what those of the wrapped calls do, an answer under another's number, and a result that is not left.
 use ask::Verdict as Asked;
 use join::Joined;
 use panel::Panel;
@@ -142,7 +143,7 @@ pub extern "C" fn clavirost_deal(
     outcome_number(a)
 }
 
-// Is the set open? r is left where it is, z where it is not.
+// Is the set open? After the call r holds the vector of an open set, z the witness of a closed one; the other list stays.
 #[no_mangle]
 pub extern "C" fn clavirost_ask(
     p: u32,
@@ -182,7 +183,7 @@ pub extern "C" fn clavirost_join(
     leave_code(a, code)
 }
 
-// Has the scheme the product property? r is left where it has, w where it has not.
+// Has the scheme the product property? After the call r holds the vector where it has, w the witness where not; the other list stays.
 #[no_mangle]
 pub extern "C" fn clavirost_product(
     p: u32,
