@@ -1,5 +1,8 @@
 // Answers to the request lines of the calls on a scheme: check, deal, ask, join, product and threshold. A line's function takes the numbers
 // after the call's name and answers whether they are those of a request; it has then written the answer.
+
+#![tactic(auto)]
+
 use join::Joined;
 
 fn write_asked(a: ask::Verdict) {

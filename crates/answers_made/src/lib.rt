@@ -1,5 +1,8 @@
 // Answers to the request lines of the calls that make a scheme, or take one, as text or as a file: rule, write and read. A line's function
 // takes the numbers after the call's name and answers whether they are those of a request; it has then written the answer.
+
+#![tactic(auto)]
+
 use scheme::{Made, Outcome, Shape};
 
 fn write_shape(s: Shape) {

@@ -1,6 +1,9 @@
 // Answers to the request lines of the calls on a card panel: panel_new, panel_put, panel_take and panel_code. A line's function takes the
 // numbers after the call's name and answers whether they are those of a request; it has then written the answer. A panel's lists are
 // places of its own: a list that is longer than its places is no request.
+
+#![tactic(auto)]
+
 use join::Joined;
 use panel::{Panel, Told};
 use scheme::Outcome;

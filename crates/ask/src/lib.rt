@@ -1,4 +1,7 @@
 // The set question: is the set open? With the vector r or the witness z.
+
+#![tactic(auto)]
+
 ghost use Rattle.std.specs.Prelude.{◌≡◌};
 ghost use Rattle.scheme.specs.Refusal.{ask_refusal_lem};
 ghost use Rattle.ask.specs.Says.{AskSays};

@@ -1,4 +1,7 @@
 // The two backward solutions over the lines of the working table: the opening vector, and the vector that every line kills.
+
+#![tactic(auto)]
+
 ghost use Rattle.std.specs.Prelude.{◌≡◌, ℕ, ◌<◌, ◌≤◌, ◌%◌, ◌*◌, ◌+◌, ◌-◌, length, get_or};
 ghost use Rattle.lines.specs.Line.{Low, Lows, Ratio, at, col_sum};
 ghost use Rattle.backward.specs.Solution.{Opened, Killed};

@@ -1,4 +1,7 @@
 // A written rule built: the readers go through the text a second time and write rows and labels while they go.
+
+#![tactic(auto)]
+
 ghost use Rattle.std.specs.Prelude.{◌≡◌, ℕ, ◌+◌, ◌*◌, ◌-◌, ◌<◌, ◌≤◌, length, set};
 ghost use Rattle.rules.specs.Construction.{less_all};
 ghost use Rattle.builder.specs.Building.{vectors, number_value, ands_from, out, Past, rule_built, term_built, atom_built};

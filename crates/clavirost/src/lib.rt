@@ -1,6 +1,9 @@
 // The library's surface for C and Rust: each call as a function whose name begins with clavirost_. A list is a pointer and a length; a
 // number lent for a result is a pointer. A refused call leaves every lent list and number as it was. include/clavirost.h says what each
 // call answers. The contracts rule out what those of the wrapped calls do, an answer under another's number, and a result that is not left.
+
+#![tactic(auto)]
+
 ghost use Rattle.std.specs.Prelude.{◌≡◌, length};
 ghost use Rattle.scheme.specs.Tests.{unless, or_else};
 ghost use Rattle.scheme.specs.Refusal.{check_refusal, numbers_refusal_lem};

@@ -4,6 +4,9 @@
 // Each vector gets a functional, its dual: 1 on the vector and 0 on those before it, or 0 everywhere where the vector is a combination
 // of those before it and so is not kept. With the duals at hand a target is answered by taking the vectors off it from the last to the
 // first, each as often as its dual says: what is left is 0 exactly where the target is a combination.
+
+#![tactic(auto)]
+
 ghost use Rattle.std.specs.Prelude.{◌≡◌, ◌<◌, ◌≤◌, ◌*◌, ◌+◌, length};
 ghost use Rattle.residue.specs.Prime.{Prime};
 ghost use Rattle.combination.specs.Found.{Found};

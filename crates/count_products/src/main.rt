@@ -1,6 +1,9 @@
 // A run over source document 002's Example 4.2.9: of all matrices of 3 rows and 2 columns modulo 5, one row a participant, how many have
 // the product verdict yes, and how many of these are also "any two of three" by the threshold verdict for t = 1. The file stdout is what
 // tools/expect_count.py counts with a second program.
+
+#![tactic(auto)]
+
 ghost use Rattle.std.specs.Prelude.{◌≤◌};
 
 use scheme::Shape;

@@ -1,6 +1,9 @@
 // A day at the safe of document 01's scheme S: cards in and out, a wrong card, too few, the same card twice, a card that is not in; a full
 // crew opens. A call is a line: its name, its answer, and after ` | ` the stored shares. The file stdout is what tools/expect_day.py prints
 // for the same calls with a second program.
+
+#![tactic(auto)]
+
 use join::Joined;
 use panel::{Panel, Told};
 use scheme::Shape;

@@ -1,4 +1,7 @@
 // Dealing: from a secret and e - 1 random numbers the share of each row.
+
+#![tactic(auto)]
+
 ghost use Rattle.std.specs.Prelude.{◌≡◌, ◌&&◌, ◌∷◌, ◌<◌, ◌≤◌, ◌+◌, ◌*◌, ltb, length};
 ghost use Rattle.linear.specs.Flat.{place};
 ghost use Rattle.scheme.specs.Dealing.{share_of, shares_of};

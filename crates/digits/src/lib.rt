@@ -1,4 +1,7 @@
 // Numbers and byte strings printed into a lent list of bytes, each from a place on that the caller names: inner steps of what prints.
+
+#![tactic(auto)]
+
 ghost use Rattle.std.specs.Prelude.{◌≡◌, ◌+◌, ◌<◌, ◌≤◌, pos, nat_abs, length};
 ghost use Rattle.std.specs.Int.Signed.{lt_z};
 ghost use Rattle.digits.specs.Digits.{decimal, nearest, whole_text};

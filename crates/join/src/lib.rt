@@ -1,4 +1,7 @@
 // Joining: from a set's shares the code, where the set is open and some dealing gives the shares.
+
+#![tactic(auto)]
+
 ghost use Rattle.std.specs.Prelude.{◌≡◌, cond, ℕ, ◌<◌, ◌≤◌, ◌*◌, ◌%◌, length, get_or};
 ghost use Rattle.residue.specs.Prime.{Prime};
 ghost use Rattle.linear.specs.Combination.{total};

@@ -1,6 +1,9 @@
 // Lines of the working table. A table has 12 lines of 27 numbers: 0 to 11 the vector (columns 2, .., e, 1), 12 to 23 the factors with
 // which the lines before it were taken off, negated, 24 the inverse that scaled it, 25 its pivot, 26 the number of its row.
 // Sums of products are exact in 64 bits and are reduced once a place. Lines that are only read are lent, those that are made are handed on.
+
+#![tactic(auto)]
+
 ghost use Rattle.std.specs.Prelude.{◌≡◌, [], ℕ, ◌<◌, ◌≤◌, ◌%◌, ◌*◌, ◌+◌, ◌-◌, length, get_or};
 ghost use Rattle.residue.specs.Prime.{Prime};
 ghost use Rattle.lines.specs.Line.{Low, Lows, Ratio, Pivots, Stepped, PivotMarks, col_sum, row_sum};

@@ -1,1 +1,3 @@
 // Theory only: laws of lists of numbers that loops over lent lists need.
+
+#![tactic(auto)]

@@ -1,6 +1,9 @@
 // A scheme file from a written rule. Standard input is one line, `p n rule`: the modulus, the number of participants and the rule, with one
 // space between. Standard output is the scheme file, or the line REFUSED with the number. What is no decimal number below 2^32 is no modulus
 // and no number of participants: 1 and 2.
+
+#![tactic(auto)]
+
 ghost use Rattle.std.specs.Prelude.{◌≡◌, ◌≤◌, ◌*◌, length, take};
 ghost use Rattle.scheme.specs.Refusal.{check_refusal};
 

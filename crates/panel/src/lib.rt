@@ -1,4 +1,7 @@
 // The card panel: a checked scheme, the cards that are in and their shares, all by value. Each call hands the panel back.
+
+#![tactic(auto)]
+
 ghost use Rattle.std.specs.Prelude.{◌≡◌, ◌≤◌, ◌-◌, ◌^◌, length};
 ghost use Rattle.scheme.specs.Outcome.{over};
 ghost use Rattle.panel.specs.Cards.{rows_of, laid, blank_panel, fresh_panel, put_refusal_lem, take_refusal_lem, put_in, taken_out};
@@ -9,7 +12,7 @@ use join::Joined;
 use scheme::{Outcome, Shape};
 
 // A panel's state. Of the labels and the stored shares the first d places are used, of the entries the first d times e.
-#[derive(Drop)]
+#[derive(Clone, Copy)]
 pub struct Panel {
     pub p: u32,
     pub n: u32,

@@ -1,4 +1,7 @@
 // The product verdict: can the product of two codes be had from the products of their shares? With the vector r or the witness w.
+
+#![tactic(auto)]
+
 ghost use Rattle.std.specs.Prelude.{◌≡◌, ◌&&◌, ℕ, ◌<◌, ◌≤◌, ◌+◌, ◌-◌, ◌*◌, eqb, length};
 ghost use Rattle.residue.specs.Prime.{Prime};
 ghost use Rattle.linear.specs.Flat.{entry};

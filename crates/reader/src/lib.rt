@@ -1,4 +1,7 @@
 // Written rules read: whether a text is a rule, and what is refused of it.
+
+#![tactic(auto)]
+
 ghost use Rattle.std.specs.Prelude.{◌≡◌, cond, ℕ, ◌+◌, ◌*◌, ◌-◌, ◌<◌, ◌≤◌, eqb, length};
 ghost use Rattle.rules.specs.Bytes.{occurs};
 ghost use Rattle.reader.specs.Grammar.{class_of, kind_at, number_end_lem, rule_end, term_end, atom_end, Within};

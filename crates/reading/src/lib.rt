@@ -1,4 +1,7 @@
 // A scheme file read: refused as document 01 says, or its numbers and lists handed on.
+
+#![tactic(auto)]
+
 ghost use Rattle.std.specs.Prelude.{◌≡◌, ◌||◌, ◌<◌, ◌≤◌, ◌+◌, ◌*◌, ◌/◌, ◌%◌, eqb, length};
 ghost use Rattle.linear.specs.Flat.{place};
 ghost use Rattle.scheme.specs.Tests.{within, each, each_below};

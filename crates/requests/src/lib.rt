@@ -1,6 +1,9 @@
 // Request lines: a call's name and decimal numbers below 2^32, with one space between. The numbers of a line as one list, and the parts of
 // that list: a number, or a list, which is its length and then its numbers; a scheme at the head of them, the places lent for results, a
 // list of bytes. Every public function takes any line and any list.
+
+#![tactic(auto)]
+
 ghost use Rattle.std.specs.Prelude.{◌≡◌, Bool, true, false, ◌&&◌, List, [], ◌∷◌, ℕ, ◌+◌, ◌*◌, ◌≤◌, ◌<◌, eqb, length, take, drop, get_or};
 ghost use Rattle.bytes.specs.Bytes.{index_of};
 ghost use Rattle.requests.specs.Text.{ReadSays, Stored, ReadsOn, Reads};

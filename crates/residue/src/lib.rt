@@ -1,5 +1,8 @@
 // Arithmetic modulo p on numbers of 32 bits, and the moduli. Every contract holds for every p above 0 and all operands of 32 bits, in
 // `reduce` of 64; `inverse` wants a prime p and an operand that is not 0 modulo p. Nothing wraps.
+
+#![tactic(auto)]
+
 ghost use Rattle.std.specs.Prelude.{◌≡◌, ◌+◌, ◌-◌, ◌*◌, ◌/◌, ◌%◌, ◌<◌, ◌≤◌};
 ghost use Rattle.residue.specs.Prime.{Prime};
 ghost use Rattle.residue.specs.Moduli.{is_modulus_lem};

@@ -1,5 +1,8 @@
 // The question of the chosen rows: is the target (1, 0, .., 0) a combination of them? `ask` answers it for up to 32 rows of up to 12
 // numbers, with the vector r or the witness z and the number of kept rows. One working table of 1,296 bytes, row by row.
+
+#![tactic(auto)]
+
 ghost use Rattle.std.specs.Prelude.{◌≡◌, [], true, false, ◌&&◌, ℕ, ◌<◌, ◌≤◌, ◌%◌, ◌*◌, ◌+◌, ◌-◌, ltb, length, get_or, set};
 ghost use Rattle.residue.specs.Prime.{Prime};
 ghost use Rattle.lines.specs.Line.{Low, Lows, Ratio, Pivots, Stepped, at};

@@ -1,4 +1,7 @@
 // From a written rule to its scheme: the four numbers, the labels and the entries.
+
+#![tactic(auto)]
+
 ghost use Rattle.std.specs.Prelude.{◌≡◌, [], ℕ, ◌+◌, ◌*◌, ◌<◌, ◌≤◌, length, get_or};
 ghost use Rattle.lists.proofs.Fill.{Filled};
 ghost use Rattle.linear.specs.Flat.{place};

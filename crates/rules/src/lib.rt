@@ -1,1 +1,3 @@
 // Theory only: written rules, their texts, their truth and their matrices.
+
+#![tactic(auto)]

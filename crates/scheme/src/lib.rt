@@ -1,11 +1,14 @@
 // A scheme as numbers and lent lists, and what is wrong with one: refusals 1 to 7, in the order of document 01's table.
+
+#![tactic(auto)]
+
 ghost use Rattle.std.specs.Prelude.{◌≡◌, ◌&&◌, eqb};
 ghost use Rattle.scheme.specs.Tests.{within, each, each_below};
 ghost use Rattle.scheme.specs.Refusal.{numbers_refusal_lem, content_refusal_lem, refusal_of, check_refusal};
 ghost use Rattle.scheme.specs.Outcome.{outcome_at};
 
 // The four numbers of a scheme: the modulus, the participants, the rows, the columns.
-#[derive(Drop)]
+#[derive(Clone, Copy)]
 pub struct Shape {
     pub p: u32,
     pub n: u32,

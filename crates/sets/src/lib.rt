@@ -1,4 +1,7 @@
 // A set number and its rows, for the calls that take a set: inner steps, which rest on the refusals that come before them.
+
+#![tactic(auto)]
+
 ghost use Rattle.std.specs.Prelude.{◌≡◌, cond, ℕ, ◌<◌, ◌≤◌, ◌^◌, length, get_or};
 ghost use Rattle.linear.specs.Bits.{bit};
 ghost use Rattle.scheme.specs.Sets.{in_set, of_set};

@@ -3,6 +3,9 @@
 // The file stdin is that of document 01's scheme S; the file stdout is what the second program answers:
 //   python3 tools/expect_sheets.py FOLDER < crates/sheet/stdin
 // where FOLDER has the second program.
+
+#![tactic(auto)]
+
 use libc::STDIN_FILENO;
 
 // One byte more than the longest file has: a longer input is of wrong length whatever follows.

@@ -1,5 +1,8 @@
 // The lines of the sheet, printed into a lent list of bytes: inner steps, which rest on the refusals that come before them. A line has
 // 256 bytes at most.
+
+#![tactic(auto)]
+
 ghost use Rattle.std.specs.Prelude.{◌≡◌, Bool, ℕ, ◌<◌, ◌≤◌, ◌+◌, ◌*◌, ◌^◌, length, get_or};
 ghost use Rattle.residue.specs.Prime.{Prime};
 ghost use Rattle.walk.specs.Answers.{Says, Kept};

@@ -1,4 +1,7 @@
 // The sheet of a file on standard output.
+
+#![tactic(auto)]
+
 use libc::STDOUT_FILENO;
 use sheets::Written;
 

@@ -1,4 +1,7 @@
 // The sheet as bytes, printed into lent lists: a set's line, a refusal's line, and a scheme file's sheet part by part.
+
+#![tactic(auto)]
+
 ghost use Rattle.std.specs.Prelude.{◌≡◌, ◌<◌, ◌≤◌, ◌+◌, ◌*◌, ◌-◌, ◌/◌, ◌^◌, min, length, take};
 ghost use Rattle.scheme.specs.Refusal.{check_refusal};
 ghost use Rattle.digits.specs.Put.{PutSome};

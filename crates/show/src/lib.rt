@@ -1,5 +1,8 @@
 // How the runs write their lines: a call's name, its answer, and after ` | ` the numbers of each list lent for
 // results.
+
+#![tactic(auto)]
+
 ghost use Rattle.std.specs.Prelude.{◌≡◌, length};
 
 use libc::STDOUT_FILENO;

@@ -1,5 +1,8 @@
 // Tables of numbers of any size, row after row in lent lists: a table turned, and the question of all its rows: is the target
 // (1, 0, .., 0) a combination of them?
+
+#![tactic(auto)]
+
 ghost use Rattle.std.specs.Prelude.{◌≡◌, ◌∷◌, ℕ, ◌<◌, ◌≤◌, ◌+◌, ◌-◌, ◌*◌, length, take};
 ghost use Rattle.residue.specs.Prime.{Prime};
 ghost use Rattle.linear.specs.Flat.{place, entry};

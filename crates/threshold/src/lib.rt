@@ -1,4 +1,7 @@
 // The threshold verdict: is each set open exactly if it has at least t + 1 participants?
+
+#![tactic(auto)]
+
 ghost use Rattle.std.specs.Prelude.{◌≡◌, ℕ, ◌<◌, ◌≤◌, ◌+◌, ◌*◌, ◌^◌, eqb, leb, length, get_or};
 ghost use Rattle.std.specs.Bool.{beq};
 ghost use Rattle.residue.specs.Prime.{Prime};

@@ -32,6 +32,9 @@
 // which have each answer of each call ten times where the draws do, and last the largest threshold verdict. The file stdout is what the
 // second program answers:
 //   python3 second/trials.py < crates/trials/stdin
+
+#![tactic(auto)]
+
 use requests::Read;
 
 const NEWLINE: u8 = 10;

@@ -1,6 +1,9 @@
 // A run of rows::ask: ten matrices, every choice of up to 8 rows and 50 choices of more. A question is a line, `p d e choice OPEN rank r..`
 // or `p d e choice CLOSED rank z..`, and ` CHANGED` at its end where the list of the other verdict is not as it was before the call.
 // The file stdout has the answers of a second program (tools/expect_rows.py).
+
+#![tactic(auto)]
+
 ghost use Rattle.std.specs.Prelude.{◌≡◌, ℕ, ◌<◌, ◌≤◌, ◌*◌, length, get_or};
 ghost use Rattle.residue.specs.Prime.{Prime};
 

@@ -2,6 +2,9 @@
 // sheet in full, 1 to print only two checks of its bytes; and the input's length in four bytes, the lowest first.
 //
 // The file stdin is made by tools/sheet_inputs.py, and the file stdout by tools/expect_sheets.py, which asks the second program.
+
+#![tactic(auto)]
+
 ghost use Rattle.std.specs.Prelude.{◌<◌, ◌≤◌, ◌+◌, length};
 
 use libc::{STDIN_FILENO, STDOUT_FILENO};

@@ -1,6 +1,9 @@
 // Many sets asked one after another, each from where it parts from the one before it: the table only grows at its end while rows are gone
 // through, so the lines of the rows that two sets have in common can stay. Which sets are asked, and in what order, is a matter of speed
 // alone: an answer is kept with its kind, and whoever reads a place that has none asks the set by itself.
+
+#![tactic(auto)]
+
 ghost use Rattle.std.specs.Prelude.{◌≡◌, [], ℕ, ◌<◌, ◌≤◌, ◌+◌, ◌*◌, ◌-◌, eqb, length, get_or, take};
 ghost use Rattle.residue.specs.Prime.{Prime};
 ghost use Rattle.linear.specs.Bits.{bit};

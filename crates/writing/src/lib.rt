@@ -1,4 +1,7 @@
 // A scheme written as a file: document 01's blocks of 512 bytes, one after another.
+
+#![tactic(auto)]
+
 ghost use Rattle.std.specs.Prelude.{◌≡◌, [], suc, ◌<◌, ◌≤◌, ◌+◌, ◌*◌, eqb, length};
 ghost use Rattle.lists.proofs.Fill.{Filled};
 ghost use Rattle.scheme.specs.Refusal.{IsScheme};
