@@ -1,0 +1,7 @@
+-- `panel_of` meets its contract.
+-- Assumes nothing.
+use Rattle.clavirost.proofs.Handing.{panel_made}
+use Rattle.clavirost.proofs.panel_of.Goals as goal
+
+pub returns : goal.returns
+returns c = panel_made _ _ _ _ _ _ _ _ c.thirty_two.ensures c.all_entries.ensures c.thirty_two-2.ensures

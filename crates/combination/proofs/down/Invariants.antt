@@ -1,0 +1,11 @@
+-- `combination::down` meets its contract. The loop's invariant is the contract for the vectors from k on (`down_turn` of linear's
+-- proofs/Dual.antt is its turn); k falls to 0. Assumes nothing.
+use Prim.Native.Nat.{◌-◌}
+use Rattle.combination.specs.Steps.{Downed}
+use Rattle.combination.proofs.down.Given as goal
+
+abbrev pub invariant-loop-k : goal.invariant-loop-k
+invariant-loop-k l = Downed l.p l.m l.n l.vectors l.duals l.initial.t l.initial.c l.t l.c l.k
+
+abbrev pub decreases-loop-k : goal.decreases-loop-k
+decreases-loop-k l = l.k

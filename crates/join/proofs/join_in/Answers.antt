@@ -1,0 +1,54 @@
+-- `join::join_in` meets its contract: closed by the witness, wrong or a code by the opening vector (proofs/Says.antt).
+-- Assumes nothing.
+use mathlib.Core.Path.{sym, ◌∙◌}
+use native.Mathlib.Omega.{arith}
+use borrow.Author.Tests.{not-true, not-false}
+use Rattle.join.proofs.Says.{rows_closed, rows_wrong, rows_code, opens_length}
+use Rattle.join.proofs.join_in.Goals as goal
+
+pub ask-a-requires : goal.ask-a-requires
+ask-a-requires c =
+    let p = (c.requires.prime, (c.requires.le_d, c.requires.by_index)) in
+    let q = c.requires.le_d in
+    record {
+      prime = c.requires.prime;
+      d_bound = (q.1, q.2, q.3, q.4, q.6, q.7);
+      by_index = c.requires.by_index;
+    }
+
+pub returns-then-not-opens : goal.returns-then-not-opens
+returns-then-not-opens c =
+    let p = (c.requires.prime, (c.requires.le_d, c.requires.by_index)) in
+    rows_closed _ c.requires.prime _ _ c.requires.le_d.2 _ _ _ _ _ _ _ _ c.ask-a.ensures c.if-not-opens.true
+
+pub fits-requires : goal.fits-requires
+fits-requires c =
+    let p = (c.requires.prime, (c.requires.le_d, c.requires.by_index)) in
+    let q = c.requires.le_d in
+    record {
+      prime = c.requires.prime;
+      le_d = (q.0, q.1, q.2, q.3, q.4, q.5);
+    }
+
+pub returns-then-not-fits : goal.returns-then-not-fits
+returns-then-not-fits c =
+    let p = (c.requires.prime, (c.requires.le_d, c.requires.by_index)) in
+    rows_wrong _ c.requires.prime _ _ c.requires.le_d.2 _ _ _ _ _ _ _ _ c.ask-a.ensures
+    c.if-not-opens.false
+    (c.fits2.ensures.no (not-true _ c.if-not-fits.true))
+
+pub weighted-requires : goal.weighted-requires
+weighted-requires c =
+    let p = (c.requires.prime, (c.requires.le_d, c.requires.by_index)) in (
+      omega (arith, c.requires.prime.two),
+      opens_length _ _ _ _ _ _ _ _ _ _ c.ask-a.ensures
+          c.if-not-opens.false ∙ sym c.requires.le_d.5,
+    )
+
+pub returns : goal.returns
+returns c =
+    let p = (c.requires.prime, (c.requires.le_d, c.requires.by_index)) in
+    rows_code _ c.requires.prime _ _ c.requires.le_d.2 _ _ _ _ _ _ _ _
+    c.ask-a.ensures
+    c.if-not-opens.false
+    (c.fits2.ensures.yes (not-false _ c.if-not-fits.false)) _ _ c.requires.le_d.5 c.weighted.ensures

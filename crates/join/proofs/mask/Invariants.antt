@@ -1,0 +1,15 @@
+-- `join::mask` meets its contract: the loop fills x with the list's numbers at the chosen rows and 0 elsewhere.
+-- Assumes nothing.
+use mathlib.Core.Bool.{cond}
+use Prim.Native.Nat.{◌-◌, ◌%◌}
+use lib.ListN.{length}
+use Rattle.lists.proofs.Fill.{Filled}
+use Rattle.linear.specs.Bits.{bit}
+use Rattle.linear.specs.Flat.{place}
+use Rattle.join.proofs.mask.Given as goal
+
+abbrev pub invariant-loop-i : goal.invariant-loop-i
+invariant-loop-i l = Filled 0 (length l.list) (λ l.i. cond (bit l.chosen (l.i % l.d)) (place l.list l.i) 0) l.initial.x l.x l.i
+
+abbrev pub decreases-loop-i : goal.decreases-loop-i
+decreases-loop-i l = length l.initial.x - l.i

@@ -1,0 +1,13 @@
+-- `join::weighted` meets its contract. The loop's invariant: the products of the first k places are added up modulo p.
+-- Assumes nothing.
+use Prim.Native.Nat.{◌-◌, ◌*◌}
+use lib.ListN.{length}
+use Rattle.linear.specs.Flat.{place}
+use Rattle.linear.proofs.Summing.{Summing}
+use Rattle.join.proofs.weighted.Given as goal
+
+abbrev pub invariant-loop-k : goal.invariant-loop-k
+invariant-loop-k l = Summing l.p (length l.shares) (λ l.k. place l.r l.k * place l.shares l.k) l.acc l.k
+
+abbrev pub decreases-loop-k : goal.decreases-loop-k
+decreases-loop-k l = length l.shares - l.k

@@ -1,0 +1,45 @@
+-- `Panel::code` meets its contract: where the four numbers are right the parts lent are the panel's lists, and joining answers.
+-- Assumes nothing.
+use native.Mathlib.Omega.{arith}
+use mathlib.Core.Path.{◌≡◌, refl, sym, ◌∙◌}
+use Prim.Native.Nat.{ℕ}
+use native.Mathlib.Nat.{sub-zero}
+use lib.ListN.{length, length-map}
+use Rattle.scheme.proofs.Refusals.{gone, rows_few}
+use Rattle.join.proofs.Says.{refused_early}
+use Rattle.panel.proofs.Refused.{numbers_stand, rows_at_most}
+use Rattle.panel.proofs.Panel.code.Goals as goal
+
+-- An array in a field has its declared length.
+labels_length : (c : tie.Start) → length c.args.self.labels ≡ 32
+labels_length c = sym (length-map c.args.self.labels (λ (v : ℕ). v)) ∙ c.well-formed.0.1.1.1.1.1.1.1.0.1.0.1
+
+entries_length : (c : tie.Start) → length c.args.self.entries ≡ 384
+entries_length c = sym (length-map c.args.self.entries (λ (v : ℕ). v)) ∙ c.well-formed.0.1.1.1.1.1.1.1.1.0.1.0.1
+
+stored-length : (c : tie.Start) → length c.args.self.stored ≡ 32
+stored-length c = sym (length-map c.args.self.stored (λ (v : ℕ). v)) ∙ c.well-formed.0.1.1.1.1.1.1.1.1.1.0.1.0.1
+
+pub returns-then-bad-ne0 : goal.returns-then-bad-ne0
+returns-then-bad-ne0 c =
+    record {
+  same = refl;
+  code = refused_early _ _ _ _ _ _ (numbers_stand _ _ _ _ _ c.numbers_refusal-bad.ensures c.if-bad-ne0.true) c.if-bad-ne0.true;
+}
+
+pub overflow_mul-m : goal.overflow_mul-m
+overflow_mul-m c = omega (arith, rows_few _ (gone c.numbers_refusal-bad.ensures c.if-bad-ne0.false))
+
+pub slice_bounds-join-end : goal.slice_bounds-join-end
+slice_bounds-join-end c =
+    omega (arith, labels_length c, rows_at_most _ (gone c.numbers_refusal-bad.ensures c.if-bad-ne0.false))
+
+pub slice_bounds-join-end-2 : goal.slice_bounds-join-end-2
+slice_bounds-join-end-2 c = omega (arith, entries_length c, rows_few _ (gone c.numbers_refusal-bad.ensures c.if-bad-ne0.false))
+
+pub slice_bounds-join-end-3 : goal.slice_bounds-join-end-3
+slice_bounds-join-end-3 c =
+    omega (arith, stored-length c, rows_at_most _ (gone c.numbers_refusal-bad.ensures c.if-bad-ne0.false))
+
+pub returns : goal.returns
+returns c = record { same = refl; code = simp sub-zero at c.join-said.ensures }

@@ -1,0 +1,10 @@
+-- `panel::places_right` meets its contract.
+-- Assumes nothing.
+use Rattle.scheme.proofs.Tests.{failed, passed}
+use Rattle.panel.proofs.places_right.Goals as goal
+
+pub returns-then-not-between : goal.returns-then-not-between
+returns-then-not-between c = simp (failed c.between.ensures c.if-not-between.true)
+
+pub returns : goal.returns
+returns c = let e = c.count_rows.ensures in simp (passed c.between.ensures c.if-not-between.false, e)

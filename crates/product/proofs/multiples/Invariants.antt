@@ -1,0 +1,12 @@
+-- `product::multiples` meets its contract: the loop fills the places from `at` on.
+-- Assumes nothing.
+use Rattle.linear.specs.Flat.{entry}
+use Rattle.lists.proofs.Fill.{Filled}
+use Prim.Native.Nat.{◌+◌, ◌-◌, ◌*◌, ◌%◌}
+use Rattle.product.proofs.multiples.Given as goal
+
+abbrev pub invariant-loop-i : goal.invariant-loop-i
+invariant-loop-i l = Filled l.at (l.e - l.j) (λ l.i. entry l.e l.entries l.k l.j * entry l.e l.entries l.k (l.j + l.i) % l.p) l.initial.a l.a l.i
+
+abbrev pub decreases-loop-i : goal.decreases-loop-i
+decreases-loop-i l = l.e - l.j - l.i

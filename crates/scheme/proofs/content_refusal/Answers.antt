@@ -1,0 +1,23 @@
+-- `scheme::content_refusal` meets its contract: at each return the tests before it passed, and its own failed.
+-- Assumes nothing.
+use Rattle.scheme.specs.Refusal.{content_refusal_lem}
+use Rattle.scheme.proofs.Tests.{failed, passed}
+use Rattle.scheme.proofs.content_refusal.Goals as goal
+
+pub returns-then-not-all_within : goal.returns-then-not-all_within
+unfolding content_refusal_lem
+returns-then-not-all_within c = simp (failed c.all_within.ensures c.if-not-all_within.true)
+
+pub returns-then-not-all_below : goal.returns-then-not-all_below
+unfolding content_refusal_lem
+returns-then-not-all_below c =
+    let labels = passed c.all_within.ensures c.if-not-all_within.false in
+    simp (labels, failed c.all_below.ensures c.if-not-all_below.true)
+
+pub returns : goal.returns
+unfolding content_refusal_lem
+returns c =
+    simp (
+  passed c.all_within.ensures c.if-not-all_within.false,
+  passed c.all_below.ensures c.if-not-all_below.false,
+)

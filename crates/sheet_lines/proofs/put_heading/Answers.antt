@@ -1,0 +1,21 @@
+-- `sheet_lines::put_heading` meets its contract: the word, four numbers and the line's end, one behind the other.
+-- Assumes nothing.
+use Rattle.sheet_lines.proofs.Texts.{put_head}
+use native.Mathlib.Omega.{arith}
+use Rattle.sheet_lines.proofs.put_heading.Goals as goal
+
+pub returns : goal.returns
+returns c =
+    let from =
+    c in
+    let w = c.put_text-at.ensures in
+    let p = (c.put_field-at.ensures.put, c.put_field-at.ensures.room) in
+    let n = (c.put_field-at-2.ensures.put, c.put_field-at-2.ensures.room) in
+    let d = (c.put_field-at-3.ensures.put, c.put_field-at-3.ensures.room) in
+    let e = (c.put_field-at-4.ensures.put, c.put_field-at-4.ensures.room) in
+    let l = c.put_text.ensures in
+    let room = from.pre.2 in
+    record {
+      put = put_head from.args.out.now from.args.s w c.put_field-at.ensures.put c.put_field-at-2.ensures.put c.put_field-at-3.ensures.put c.put_field-at-4.ensures.put l;
+      room = omega (arith, w.0, c.put_field-at.ensures.room, c.put_field-at-2.ensures.room, c.put_field-at-3.ensures.room, c.put_field-at-4.ensures.room, l.0, room);
+    }

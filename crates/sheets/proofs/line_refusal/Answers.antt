@@ -1,0 +1,20 @@
+-- `sheets::line_refusal` meets its contract: what every call refuses, and then the set.
+-- Assumes nothing.
+use mathlib.Core.Path.{◌∙◌, refl}
+use Rattle.scheme.proofs.Refusals.{call_stands, call_more, valid, gone}
+use Rattle.sheets.proofs.line_refusal.Goals as goal
+
+pub returns-then-bad-ne0 : goal.returns-then-bad-ne0
+returns-then-bad-ne0 c =
+    call_stands c.args.s c.args.labels.now c.args.entries.now _ _ _ _ refl c.refusal-bad.ensures c.if-bad-ne0.true
+
+pub set_refusal-requires : goal.set_refusal-requires
+set_refusal-requires c =
+    let v = valid c.args.s c.args.labels.now c.args.entries.now _ (gone c.refusal-bad.ensures c.if-bad-ne0.false) in
+    v.n_high
+
+pub returns : goal.returns
+returns c =
+    c.set_refusal.ensures
+    ∙ call_more c.args.s c.args.labels.now c.args.entries.now _ _ _ _ refl c.refusal-bad.ensures
+    c.if-bad-ne0.false
