@@ -29,7 +29,6 @@ loop-k-smaller c = omega arith
 
 pub loop-k-preserved : goal.loop-k-preserved
 loop-k-preserved c =
-    let q = (c.requires.p_nonzero, c.requires.duals_of) in
     downed_turn _ _ _ _ _ _ _ _ _ _ _ _ c.requires.duals_of c.requires.p_nonzero.4 c.loop-k-test.true c.loop-k.invariant c.cancel-f.ensures
 
 pub shape_of-t : goal.shape_of-t

@@ -22,7 +22,6 @@ loop-k-smaller c = omega arith
 
 pub loop-k-preserved : goal.loop-k-preserved
 loop-k-preserved c =
-    let q = (c.requires.p_nonzero, c.requires.duals_of) in
     raised_turn _ _ _ _ _ _ _ _ _ _ c.requires.duals_of c.loop-k-test.true c.loop-k.invariant c.cancel.ensures
 
 pub shape_of-u : goal.shape_of-u

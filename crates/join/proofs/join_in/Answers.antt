@@ -8,7 +8,6 @@ use Rattle.join.proofs.join_in.Goals as goal
 
 pub ask-a-requires : goal.ask-a-requires
 ask-a-requires c =
-    let p = (c.requires.prime, (c.requires.le_d, c.requires.by_index)) in
     let q = c.requires.le_d in
     record {
       prime = c.requires.prime;
@@ -18,12 +17,10 @@ ask-a-requires c =
 
 pub returns-then-not-opens : goal.returns-then-not-opens
 returns-then-not-opens c =
-    let p = (c.requires.prime, (c.requires.le_d, c.requires.by_index)) in
-    rows_closed _ c.requires.prime _ _ c.requires.le_d.2 _ _ _ _ _ _ _ _ c.ask-a.ensures c.if-not-opens.true
+    rows_closed _ c.requires.prime _ _ c.requires.le_d.2 _ _ _ _ _ _ _ _ c.ask-a.ensures (not-true _ c.if-not-opens.true)
 
 pub fits-requires : goal.fits-requires
 fits-requires c =
-    let p = (c.requires.prime, (c.requires.le_d, c.requires.by_index)) in
     let q = c.requires.le_d in
     record {
       prime = c.requires.prime;
@@ -32,23 +29,21 @@ fits-requires c =
 
 pub returns-then-not-fits : goal.returns-then-not-fits
 returns-then-not-fits c =
-    let p = (c.requires.prime, (c.requires.le_d, c.requires.by_index)) in
     rows_wrong _ c.requires.prime _ _ c.requires.le_d.2 _ _ _ _ _ _ _ _ c.ask-a.ensures
-    c.if-not-opens.false
+    (not-false _ c.if-not-opens.false)
     (c.fits2.ensures.no (not-true _ c.if-not-fits.true))
 
 pub weighted-requires : goal.weighted-requires
 weighted-requires c =
-    let p = (c.requires.prime, (c.requires.le_d, c.requires.by_index)) in (
+    (
       omega (arith, c.requires.prime.two),
       opens_length _ _ _ _ _ _ _ _ _ _ c.ask-a.ensures
-          c.if-not-opens.false ∙ sym c.requires.le_d.5,
+          (not-false _ c.if-not-opens.false) ∙ sym c.requires.le_d.5,
     )
 
 pub returns : goal.returns
 returns c =
-    let p = (c.requires.prime, (c.requires.le_d, c.requires.by_index)) in
     rows_code _ c.requires.prime _ _ c.requires.le_d.2 _ _ _ _ _ _ _ _
     c.ask-a.ensures
-    c.if-not-opens.false
+    (not-false _ c.if-not-opens.false)
     (c.fits2.ensures.yes (not-false _ c.if-not-fits.false)) _ _ c.requires.le_d.5 c.weighted.ensures

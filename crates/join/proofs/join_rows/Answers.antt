@@ -24,7 +24,6 @@ slice_bounds-z-end c = omega arith
 
 pub join_in-requires : goal.join_in-requires
 join_in-requires c =
-    let p = (c.requires.prime, (c.requires.le_d, c.requires.by_index)) in
     let q = c.requires.le_d in
     record {
       prime = c.requires.prime;

@@ -9,7 +9,6 @@ use Rattle.lines.proofs.line.Goals as goal
 
 pub factors-g-requires : goal.factors-g-requires
 factors-g-requires c =
-    let h = (c.requires.ratio, (c.requires.low, (c.requires.lows, (c.requires.pivots, c.requires.stepped)))) in
     record {
       p_nonzero = (omega (arith, c.requires.prime.two), c.requires.e_bound.2);
       ratio = c.requires.ratio;
@@ -20,7 +19,6 @@ factors-g-requires c =
 
 pub rest-x-requires : goal.rest-x-requires
 rest-x-requires c =
-    let h = (c.requires.e_bound, (c.requires.ratio, (c.requires.low, (c.requires.lows, (c.requires.pivots, c.requires.stepped))))) in
     let pos : 0 < c.args.p = omega (arith, c.requires.prime.two) in
     let pivs = c.requires.pivots in
     record {
@@ -48,7 +46,6 @@ returns-then-c-e c =
     let g = c.factors-g in
     let x = c.rest-x in
     let f = c.find-c in
-    let m = (c.marked.ensures.shape, (c.marked.ensures.marks, c.marked.ensures.same)) in
     record {
       shape = record { len = c.marked.ensures.shape.0; low = c.marked.ensures.shape.1; piv = omega (arith, c.marked.ensures.marks.1) };
       made = lined_none c.requires.e_bound.2 c.requires.e_bound.0 (omega (arith, c.requires.prime.two)) g.ensures x.ensures
@@ -89,7 +86,6 @@ returns c =
     let x = c.rest-x in
     let f = c.find-c in
     let q = c.inverse-q in
-    let m = (c.marked-2.ensures.shape, (c.marked-2.ensures.marks, c.marked-2.ensures.same)) in
     record {
       shape = record { len = c.marked-2.ensures.shape.0; low = c.marked-2.ensures.shape.1; piv = omega (arith, c.marked-2.ensures.marks.1) };
       made = lined_some f.result q.result c.requires.e_bound.2 c.requires.e_bound.0 g.ensures x.ensures (omega arith) f.ensures.before

@@ -25,10 +25,10 @@ loop-i-init c = fill_start _ _ _ _
 pub loop-i-preserved-then-b-ne0 : goal.loop-i-preserved-then-b-ne0
 loop-i-preserved-then-b-ne0 c =
     let l = c.loop-i in
-    let n : length c.args.t5 ≡ 27 = search rules in
-    fill_turn 0 c.args.e (rested c.args.p c.args.s c.args.t.now c.args.t5) c.args.t5 l.x l.i l.i 0
+    let n : length c.args.v ≡ 27 = search rules in
+    fill_turn 0 c.args.e (rested c.args.p c.args.s c.args.t.now c.args.v) c.args.v l.x l.i l.i 0
     l.invariant (omega arith) (omega arith) (omega arith)
-    (marked_zero c.args.p c.args.s c.args.t.now c.args.t5 c.pivot_marks-m.result
+    (marked_zero c.args.p c.args.s c.args.t.now c.args.v c.pivot_marks-m.result
     c.pivot_marks-m.ensures c.requires.cleared l.i c.if-b-ne0.true)
 
 pub col_dot-y-requires : goal.col_dot-y-requires
@@ -43,12 +43,12 @@ col_dot-y-requires c =
 pub loop-i-preserved : goal.loop-i-preserved
 loop-i-preserved c =
     let l = c.loop-i in
-    let n : length c.args.t5 ≡ 27 = search rules in
-    fill_turn 0 c.args.e (rested c.args.p c.args.s c.args.t.now c.args.t5) c.args.t5 l.x l.i l.i
+    let n : length c.args.v ≡ 27 = search rules in
+    fill_turn 0 c.args.e (rested c.args.p c.args.s c.args.t.now c.args.v) c.args.v l.x l.i l.i
     c.col_dot-y.result l.invariant (omega arith) (omega arith) (omega arith) c.col_dot-y.ensures.0
 
 pub returns : goal.returns
 returns c =
     let l = c.loop-i in
-    changed c.args.p c.args.e (rested c.args.p c.args.s c.args.t.now c.args.t5) c.args.t5 l.x l.i
+    changed c.args.p c.args.e (rested c.args.p c.args.s c.args.t.now c.args.v) c.args.v l.x l.i
     l.invariant (omega arith) (search rules) c.requires.low (λ k. mod-lt _ c.requires.p_nonzero.0)

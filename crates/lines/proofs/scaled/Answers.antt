@@ -18,19 +18,19 @@ loop-i-init c = fill_start _ _ _ _
 
 pub overflow_mul-q : goal.overflow_mul-q
 overflow_mul-q c =
-    let a : Fits w32 (get_or c.args.t5 c.loop-i.i 0) = search rules in
-    omega (arith, product_fits c.args.q (get_or c.args.t5 c.loop-i.i 0) (search rules) a.fits)
+    let a : Fits w32 (get_or c.args.v c.loop-i.i 0) = search rules in
+    omega (arith, product_fits c.args.q (get_or c.args.v c.loop-i.i 0) (search rules) a.fits)
 
 pub loop-i-preserved : goal.loop-i-preserved
 loop-i-preserved c =
     let l = c.loop-i in
-    let n : length c.args.t5 ≡ 27 = search rules in
-    fill_turn 0 c.args.e (λ k. c.args.q * get_or c.args.t5 k 0 % c.args.p) c.args.t5 l.x l.i l.i
+    let n : length c.args.v ≡ 27 = search rules in
+    fill_turn 0 c.args.e (λ k. c.args.q * get_or c.args.v k 0 % c.args.p) c.args.v l.x l.i l.i
     c.reduce.result l.invariant (omega arith) (omega arith)
     (omega arith) c.reduce.ensures.0
 
 pub returns : goal.returns
 returns c =
     let l = c.loop-i in
-    changed c.args.p c.args.e (λ k. c.args.q * get_or c.args.t5 k 0 % c.args.p) c.args.t5 l.x l.i l.invariant
+    changed c.args.p c.args.e (λ k. c.args.q * get_or c.args.v k 0 % c.args.p) c.args.v l.x l.i l.invariant
     (omega arith) (search rules) c.requires.low (λ k. mod-lt _ c.requires.p_nonzero.0)

@@ -1,10 +1,12 @@
 -- `panel::places_right` meets its contract.
 -- Assumes nothing.
 use Rattle.scheme.proofs.Tests.{failed, passed}
+use Rattle.std.proofs.lemmas.Bool.{not-true, not-false}
 use Rattle.panel.proofs.places_right.Goals as goal
 
 pub returns-then-not-between : goal.returns-then-not-between
-returns-then-not-between c = simp (failed c.between.ensures c.if-not-between.true)
+returns-then-not-between c = simp (failed c.between.ensures (not-true _ c.if-not-between.true))
 
 pub returns : goal.returns
-returns c = let e = c.count_rows.ensures in simp (passed c.between.ensures c.if-not-between.false, e)
+returns c =
+    let e = c.count_rows.ensures in simp (passed c.between.ensures (not-false _ c.if-not-between.false), e)

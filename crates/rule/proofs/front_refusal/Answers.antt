@@ -1,24 +1,25 @@
 -- `rule::front_refusal` meets its contract: at each return the tests before it passed, and its own failed.
 -- Assumes nothing.
 use Rattle.scheme.proofs.Tests.{failed, passed}
+use Rattle.std.proofs.lemmas.Bool.{not-true, not-false}
 use Rattle.rule.proofs.front_refusal.Goals as goal
 
 pub returns-then-not-is_modulus : goal.returns-then-not-is_modulus
-returns-then-not-is_modulus c = simp (failed c.is_modulus.ensures c.if-not-is_modulus.true)
+returns-then-not-is_modulus c = simp (failed c.is_modulus.ensures (not-true _ c.if-not-is_modulus.true))
 
 pub returns-then-not-between : goal.returns-then-not-between
 returns-then-not-between c =
-    let p = passed c.is_modulus.ensures c.if-not-is_modulus.false in
-    simp (p, failed c.between.ensures c.if-not-between.true)
+    let p = passed c.is_modulus.ensures (not-false _ c.if-not-is_modulus.false) in
+    simp (p, failed c.between.ensures (not-true _ c.if-not-between.true))
 
 pub returns-then-not-both_same : goal.returns-then-not-both_same
 returns-then-not-both_same c =
-    let p = passed c.is_modulus.ensures c.if-not-is_modulus.false in
-    let n = passed c.between.ensures c.if-not-between.false in
-    simp (p, n, failed c.both_same.ensures c.if-not-both_same.true)
+    let p = passed c.is_modulus.ensures (not-false _ c.if-not-is_modulus.false) in
+    let n = passed c.between.ensures (not-false _ c.if-not-between.false) in
+    simp (p, n, failed c.both_same.ensures (not-true _ c.if-not-both_same.true))
 
 pub returns : goal.returns
 returns c =
-    let p = passed c.is_modulus.ensures c.if-not-is_modulus.false in
-    let n = passed c.between.ensures c.if-not-between.false in
-    simp (p, n, passed c.both_same.ensures c.if-not-both_same.false)
+    let p = passed c.is_modulus.ensures (not-false _ c.if-not-is_modulus.false) in
+    let n = passed c.between.ensures (not-false _ c.if-not-between.false) in
+    simp (p, n, passed c.both_same.ensures (not-false _ c.if-not-both_same.false))

@@ -13,7 +13,6 @@ loop-i-init c =
 
 pub put_set-end-requires : goal.put_set-end-requires
 put_set-end-requires c =
-    let q = (c.requires.prime, (c.requires.p_bound, (c.requires.by_index, c.requires.by_index_2))) in
     let l = c.loop-i.invariant in
     let t = c.requires.p_bound in
     let h = c.loop-i-test.true in

@@ -9,7 +9,6 @@ pub returns : goal.returns
 returns c =
     let a = c.args in
     let t = c.put_text-start.ensures in
-    let n = (c.put_number.ensures.put, c.put_number.ensures.room) in
     record {
       put = put_spaced a.out.now a.at (decimal a.n) t c.put_number.ensures.put;
       room = omega (arith, t.0, c.put_number.ensures.room);

@@ -9,10 +9,6 @@ returns c =
     let from =
     c in
     let w = c.put_text-at.ensures in
-    let p = (c.put_field-at.ensures.put, c.put_field-at.ensures.room) in
-    let n = (c.put_field-at-2.ensures.put, c.put_field-at-2.ensures.room) in
-    let d = (c.put_field-at-3.ensures.put, c.put_field-at-3.ensures.room) in
-    let e = (c.put_field-at-4.ensures.put, c.put_field-at-4.ensures.room) in
     let l = c.put_text.ensures in
     let room = from.pre.2 in
     record {

@@ -17,9 +17,9 @@ put_line-requires c =
     let a = c.args in
     let t = c.requires.p_bound in
     let i = c.if-kind-eq1.true in
-    let n : length a.t8 ≡ 32 = search rules in
-    let h = shows_kept_open a.s a.labels.now a.entries.now a.set a.kind a.t8 n c.requires.says t.2 i in
-    let w = shown_below a.s a.labels.now a.entries.now a.set true (take (a.s.d - 0) a.t8) t.2 t.4 h in
+    let n : length a.row ≡ 32 = search rules in
+    let h = shows_kept_open a.s a.labels.now a.entries.now a.set a.kind a.row n c.requires.says t.2 i in
+    let w = shown_below a.s a.labels.now a.entries.now a.set true (take (a.s.d - 0) a.row) t.2 t.4 h in
     record {
       p_bound = (t.0, w.0, t.9);
       by_index = w.1;
@@ -30,11 +30,10 @@ returns-then-kind-eq1 c =
     let a = c.args in
     let t = c.requires.p_bound in
     let i = c.if-kind-eq1.true in
-    let n : length a.t8 ≡ 32 = search rules in
-    let h = shows_kept_open a.s a.labels.now a.entries.now a.set a.kind a.t8 n c.requires.says t.2 i in
-    let p = (c.put_line.ensures.put, c.put_line.ensures.room) in
+    let n : length a.row ≡ 32 = search rules in
+    let h = shows_kept_open a.s a.labels.now a.entries.now a.set a.kind a.row n c.requires.says t.2 i in
     record {
-      put = line_put a.s a.labels.now a.entries.now a.set a.out.now a.at true (take (a.s.d - 0) a.t8) h c.put_line.ensures.put;
+      put = line_put a.s a.labels.now a.entries.now a.set a.out.now a.at true (take (a.s.d - 0) a.row) h c.put_line.ensures.put;
       room = c.put_line.ensures.room;
     }
 
@@ -46,9 +45,9 @@ put_line-requires-then-kind-eq2 c =
     let a = c.args in
     let t = c.requires.p_bound in
     let i = c.if-kind-eq2.true in
-    let n : length a.t8 ≡ 32 = search rules in
-    let h = shows_kept_closed a.s a.labels.now a.entries.now a.set a.kind a.t8 n c.requires.says t.4 i in
-    let w = shown_below a.s a.labels.now a.entries.now a.set false (take (a.s.e - 0) a.t8) t.2 t.4 h in
+    let n : length a.row ≡ 32 = search rules in
+    let h = shows_kept_closed a.s a.labels.now a.entries.now a.set a.kind a.row n c.requires.says t.4 i in
+    let w = shown_below a.s a.labels.now a.entries.now a.set false (take (a.s.e - 0) a.row) t.2 t.4 h in
     record {
       p_bound = (t.0, w.0, t.9);
       by_index = w.1;
@@ -59,17 +58,15 @@ returns-then-kind-eq2 c =
     let a = c.args in
     let t = c.requires.p_bound in
     let i = c.if-kind-eq2.true in
-    let n : length a.t8 ≡ 32 = search rules in
-    let h = shows_kept_closed a.s a.labels.now a.entries.now a.set a.kind a.t8 n c.requires.says t.4 i in
-    let p = (c.put_line-then-kind-eq2.ensures.put, c.put_line-then-kind-eq2.ensures.room) in
+    let n : length a.row ≡ 32 = search rules in
+    let h = shows_kept_closed a.s a.labels.now a.entries.now a.set a.kind a.row n c.requires.says t.4 i in
     record {
-      put = line_put a.s a.labels.now a.entries.now a.set a.out.now a.at false (take (a.s.e - 0) a.t8) h c.put_line-then-kind-eq2.ensures.put;
+      put = line_put a.s a.labels.now a.entries.now a.set a.out.now a.at false (take (a.s.e - 0) a.row) h c.put_line-then-kind-eq2.ensures.put;
       room = c.put_line-then-kind-eq2.ensures.room;
     }
 
 pub put_set-requires : goal.put_set-requires
 put_set-requires c =
-    let q = (c.requires.prime, (c.requires.p_bound, (c.requires.by_index, (c.requires.by_index_2, c.requires.says)))) in
     record {
       prime = c.requires.prime;
       p_bound = c.requires.p_bound;

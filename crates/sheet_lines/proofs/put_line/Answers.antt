@@ -7,9 +7,6 @@ use Rattle.sheet_lines.proofs.put_line.Goals as goal
 pub returns : goal.returns
 returns c =
     let a = c.args in
-    let n = (c.put_number-end.ensures.put, c.put_number-end.ensures.room) in
-    let v = (c.put_verdict-end.ensures.put, c.put_verdict-end.ensures.room) in
-    let t = (c.put_vector-end.ensures.put, c.put_vector-end.ensures.room) in
     let l = c.put_text.ensures in
     record {
       put = put_set_text a.out.now a.at a.p a.set a.opens a.vector.now c.put_number-end.ensures.put c.put_verdict-end.ensures.put c.put_vector-end.ensures.put l;

@@ -7,7 +7,6 @@ use Rattle.sheet_lines.proofs.put_refused.Goals as goal
 pub returns : goal.returns
 returns c =
     let w = c.put_text-at.ensures in
-    let k = (c.put_field-at.ensures.put, c.put_field-at.ensures.room) in
     let l = c.put_text.ensures in
     record {
       put = put_refusal_text c.args.out.now c.args.k w c.put_field-at.ensures.put l;

@@ -44,7 +44,6 @@ overflow_add-first c =
 
 pub put_kept-end-requires : goal.put_kept-end-requires
 put_kept-end-requires c =
-    let q = (c.requires.prime, (c.requires.p_bound, (c.requires.by_index, (c.requires.by_index_2, c.requires.kept)))) in
     let t = c.requires.p_bound in
     let i = c.loop-i.i in
     let l = c.loop-i.invariant in

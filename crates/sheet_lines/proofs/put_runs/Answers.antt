@@ -26,7 +26,6 @@ overflow_add-first c =
 
 pub fill-requires : goal.fill-requires
 fill-requires c =
-    let q = (c.requires.prime, (c.requires.p_bound, (c.requires.by_index, c.requires.by_index_2))) in
     let t = c.requires.p_bound in
     let l = c.loop-i.invariant in
     let n = c.run_length-some.ensures in
@@ -47,7 +46,6 @@ overflow_add-first-in-loop-i c =
 
 pub put_run-end-requires : goal.put_run-end-requires
 put_run-end-requires c =
-    let q = (c.requires.prime, (c.requires.p_bound, (c.requires.by_index, c.requires.by_index_2))) in
     let t = c.requires.p_bound in
     let l = c.loop-i.invariant in
     let n = c.run_length-some.ensures in

@@ -34,7 +34,6 @@ returns-then-opens c =
     let h = shows_open c.args.s c.args.labels.now c.args.entries.now c.args.set c.args.r.now c.args.z.now
     q.new.r q.new.z q.result k.result c.requires.p_bound.5 k.ensures.bits q.ensures
     c.if-opens.true in
-    let p = (c.put_line.ensures.put, c.put_line.ensures.room) in
     record {
       put = line_put c.args.s c.args.labels.now c.args.entries.now c.args.set c.args.out.now c.args.at true
           q.new.r h c.put_line.ensures.put;
@@ -62,7 +61,6 @@ returns c =
     let h = shows_closed c.args.s c.args.labels.now c.args.entries.now c.args.set c.args.r.now c.args.z.now
     q.new.r q.new.z q.result k.result c.requires.p_bound.5 k.ensures.bits q.ensures
     c.if-opens.false in
-    let p = (c.put_line-2.ensures.put, c.put_line-2.ensures.room) in
     record {
       put = line_put c.args.s c.args.labels.now c.args.entries.now c.args.set c.args.out.now c.args.at false
           q.new.z h c.put_line-2.ensures.put;

@@ -22,7 +22,6 @@ loop-j-smaller c = omega arith
 
 pub loop-j-preserved : goal.loop-j-preserved
 loop-j-preserved c =
-    let r = (c.column.ensures.same, (c.column.ensures.here, c.column.ensures.before)) in
     turning_turn _ _ _ _ _ _ _ c.loop-j.invariant c.loop-j-test.true c.column.ensures.same c.column.ensures.here c.column.ensures.before
 
 pub shape_of-a : goal.shape_of-a

@@ -6,5 +6,4 @@ use Rattle.writing.proofs.write_block.Goals as goal
 pub returns : goal.returns
 returns c =
     let a = c.args in
-    let w = (c.write_front-check.ensures.sum, c.write_front-check.ensures.left) in
     block_whole a.s a.labels.now a.entries.now a.b _ _ _ _ c.write_front-check.ensures.sum c.write_front-check.ensures.left c.write_check.ensures
