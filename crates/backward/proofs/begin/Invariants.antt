@@ -6,7 +6,7 @@ use Rattle.lists.proofs.Fill.{Filled}
 use Rattle.backward.proofs.begin.Given as goal
 
 abbrev pub invariant-loop-i : goal.invariant-loop-i
-invariant-loop-i l = Filled 0 (length l.initial.r) (λ l.k. 0) l.initial.r l.r l.i
+invariant-loop-i l = Filled 0 (length l.initial.r) (λ k. 0) l.initial.r l.r l.i
 
 abbrev pub decreases-loop-i : goal.decreases-loop-i
 decreases-loop-i l = length l.initial.r - l.i

@@ -14,9 +14,9 @@ returns-then-secret-p c =
 pub returns-then-not-all_below : goal.returns-then-not-all_below
 returns-then-not-all_below c =
     let a = c.args in
-    simp (lt-ltb a.secret a.p (omega arith), failed c.all_below.ensures (not-true _ c.if-not-all_below.true))
+    simp (lt-ltb a.secret a.p (omega arith), failed c.all_below.ensures (not-true c.all_below.result c.if-not-all_below.true))
 
 pub returns : goal.returns
 returns c =
     let a = c.args in
-    simp (lt-ltb a.secret a.p (omega arith), passed c.all_below.ensures (not-false _ c.if-not-all_below.false))
+    simp (lt-ltb a.secret a.p (omega arith), passed c.all_below.ensures (not-false c.all_below.result c.if-not-all_below.false))

@@ -9,7 +9,7 @@ use Rattle.linear.specs.Flat.{place}
 use Rattle.join.proofs.mask.Given as goal
 
 abbrev pub invariant-loop-i : goal.invariant-loop-i
-invariant-loop-i l = Filled 0 (length l.list) (λ l.i. cond (bit l.chosen (l.i % l.d)) (place l.list l.i) 0) l.initial.x l.x l.i
+invariant-loop-i l = Filled 0 (length l.list) (λ i. cond (bit l.chosen (i % l.d)) (place l.list i) 0) l.initial.x l.x l.i
 
 abbrev pub decreases-loop-i : goal.decreases-loop-i
 decreases-loop-i l = length l.initial.x - l.i

@@ -7,7 +7,7 @@ use Rattle.linear.proofs.Summing.{Summing}
 use Rattle.join.proofs.weighted.Given as goal
 
 abbrev pub invariant-loop-k : goal.invariant-loop-k
-invariant-loop-k l = Summing l.p (length l.shares) (λ l.k. place l.r l.k * place l.shares l.k) l.acc l.k
+invariant-loop-k l = Summing l.p (length l.shares) (λ k. place l.r k * place l.shares k) l.acc l.k
 
 abbrev pub decreases-loop-k : goal.decreases-loop-k
 decreases-loop-k l = length l.shares - l.k

@@ -5,8 +5,8 @@ use Rattle.std.proofs.lemmas.Bool.{not-true, not-false}
 use Rattle.panel.proofs.places_right.Goals as goal
 
 pub returns-then-not-between : goal.returns-then-not-between
-returns-then-not-between c = simp (failed c.between.ensures (not-true _ c.if-not-between.true))
+returns-then-not-between c = simp (failed c.between.ensures (not-true c.between.result c.if-not-between.true))
 
 pub returns : goal.returns
 returns c =
-    let e = c.count_rows.ensures in simp (passed c.between.ensures (not-false _ c.if-not-between.false), e)
+    let e = c.count_rows.ensures in simp (passed c.between.ensures (not-false c.between.result c.if-not-between.false), e)

@@ -6,7 +6,7 @@ use Prim.Native.Nat.{◌+◌, ◌-◌, ◌*◌, ◌%◌}
 use Rattle.product.proofs.multiples.Given as goal
 
 abbrev pub invariant-loop-i : goal.invariant-loop-i
-invariant-loop-i l = Filled l.at (l.e - l.j) (λ l.i. entry l.e l.entries l.k l.j * entry l.e l.entries l.k (l.j + l.i) % l.p) l.initial.a l.a l.i
+invariant-loop-i l = Filled l.at (l.e - l.j) (λ i. entry l.e l.entries l.k l.j * entry l.e l.entries l.k (l.j + i) % l.p) l.initial.a l.a l.i
 
 abbrev pub decreases-loop-i : goal.decreases-loop-i
 decreases-loop-i l = l.e - l.j - l.i

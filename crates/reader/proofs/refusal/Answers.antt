@@ -12,7 +12,7 @@ returns-then-not-is_rule c = no_rule _ _ c.is_rule.ensures (not-true _ c.if-not-
 pub returns-then-not-named : goal.returns-then-not-named
 returns-then-not-named c =
     above_n _ _ c.is_rule.ensures (not-false _ c.if-not-is_rule.false)
-    (failed c.named.ensures (not-true _ c.if-not-named.true))
+    (failed c.named.ensures (not-true c.named.result c.if-not-named.true))
 
 pub overflow_add-ands : goal.overflow_add-ands
 overflow_add-ands c =
@@ -24,16 +24,16 @@ pub returns-then-ands-ors-gt31 : goal.returns-then-ands-ors-gt31
 returns-then-ands-ors-gt31 c =
     many_rows _ _ c.is_rule.ensures (not-false _ c.if-not-is_rule.false)
     c.occurrences-ands.ensures c.occurrences-ors.ensures
-    (passed c.named.ensures (not-false _ c.if-not-named.false)) c.if-ands-ors-gt31.true
+    (passed c.named.ensures (not-false c.named.result c.if-not-named.false)) c.if-ands-ors-gt31.true
 
 pub returns-then-ands-gt11 : goal.returns-then-ands-gt11
 returns-then-ands-gt11 c =
     many_columns _ _ c.is_rule.ensures (not-false _ c.if-not-is_rule.false)
     c.occurrences-ands.ensures c.occurrences-ors.ensures
-    (passed c.named.ensures (not-false _ c.if-not-named.false)) c.if-ands-ors-gt31.false c.if-ands-gt11.true
+    (passed c.named.ensures (not-false c.named.result c.if-not-named.false)) c.if-ands-ors-gt31.false c.if-ands-gt11.true
 
 pub returns : goal.returns
 returns c =
     nothing _ _ c.is_rule.ensures (not-false _ c.if-not-is_rule.false)
     c.occurrences-ands.ensures c.occurrences-ors.ensures
-    (passed c.named.ensures (not-false _ c.if-not-named.false)) c.if-ands-ors-gt31.false c.if-ands-gt11.false
+    (passed c.named.ensures (not-false c.named.result c.if-not-named.false)) c.if-ands-ors-gt31.false c.if-ands-gt11.false

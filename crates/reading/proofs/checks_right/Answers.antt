@@ -16,12 +16,12 @@ check_right-requires c = omega arith
 pub returns-then-not-check_right : goal.returns-then-not-check_right
 returns-then-not-check_right c =
     let l = c.loop-b in
-    try_stop _ _ l.b (omega arith) (failed c.check_right.ensures (not-true _ c.if-not-check_right.true))
+    try_stop _ _ l.b (omega arith) (failed c.check_right.ensures (not-true c.check_right.result c.if-not-check_right.true))
 
 pub loop-b-preserved : goal.loop-b-preserved
 loop-b-preserved c =
     let l = c.loop-b in
-    try_turn _ _ l.b l.invariant (omega arith) (passed c.check_right.ensures (not-false _ c.if-not-check_right.false))
+    try_turn _ _ l.b l.invariant (omega arith) (passed c.check_right.ensures (not-false c.check_right.result c.if-not-check_right.false))
 
 pub returns : goal.returns
 returns c = let l = c.loop-b in try_end _ _ l.b l.invariant (omega arith)

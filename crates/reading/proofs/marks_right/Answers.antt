@@ -16,12 +16,12 @@ mark_right-requires c = omega arith
 pub returns-then-not-mark_right : goal.returns-then-not-mark_right
 returns-then-not-mark_right c =
     let l = c.loop-b in
-    try_stop _ _ l.b (omega arith) (failed c.mark_right.ensures (not-true _ c.if-not-mark_right.true))
+    try_stop _ _ l.b (omega arith) (failed c.mark_right.ensures (not-true c.mark_right.result c.if-not-mark_right.true))
 
 pub loop-b-preserved : goal.loop-b-preserved
 loop-b-preserved c =
     let l = c.loop-b in
-    try_turn _ _ l.b l.invariant (omega arith) (passed c.mark_right.ensures (not-false _ c.if-not-mark_right.false))
+    try_turn _ _ l.b l.invariant (omega arith) (passed c.mark_right.ensures (not-false c.mark_right.result c.if-not-mark_right.false))
 
 pub returns : goal.returns
 returns c = let l = c.loop-b in try_end _ _ l.b l.invariant (omega arith)

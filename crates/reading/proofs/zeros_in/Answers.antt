@@ -16,12 +16,12 @@ zero_or_used-requires c = let h = c.requires in (h.0, h.1, omega arith)
 pub returns-then-not-zero_or_used : goal.returns-then-not-zero_or_used
 returns-then-not-zero_or_used c =
     let l = c.loop-j in
-    try_stop _ _ l.j (omega arith) (failed c.zero_or_used.ensures (not-true _ c.if-not-zero_or_used.true))
+    try_stop _ _ l.j (omega arith) (failed c.zero_or_used.ensures (not-true c.zero_or_used.result c.if-not-zero_or_used.true))
 
 pub loop-j-preserved : goal.loop-j-preserved
 loop-j-preserved c =
     let l = c.loop-j in
-    try_turn _ _ l.j l.invariant (omega arith) (passed c.zero_or_used.ensures (not-false _ c.if-not-zero_or_used.false))
+    try_turn _ _ l.j l.invariant (omega arith) (passed c.zero_or_used.ensures (not-false c.zero_or_used.result c.if-not-zero_or_used.false))
 
 pub returns : goal.returns
 returns c = let l = c.loop-j in try_end _ _ l.j l.invariant (omega arith)

@@ -6,7 +6,7 @@ use Rattle.linear.specs.Flat.{entry}
 use Rattle.tables.proofs.column.Given as goal
 
 abbrev pub invariant-loop-k : goal.invariant-loop-k
-invariant-loop-k l = Filled (l.j * l.d) l.d (λ l.k. entry l.e l.table l.k l.j) l.initial.a l.a l.k
+invariant-loop-k l = Filled (l.j * l.d) l.d (λ k. entry l.e l.table k l.j) l.initial.a l.a l.k
 
 abbrev pub decreases-loop-k : goal.decreases-loop-k
 decreases-loop-k l = l.d - l.k

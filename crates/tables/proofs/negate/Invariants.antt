@@ -6,7 +6,7 @@ use Rattle.linear.specs.Flat.{place}
 use Rattle.tables.proofs.negate.Given as goal
 
 abbrev pub invariant-loop-i : goal.invariant-loop-i
-invariant-loop-i l = Filled 0 l.n (λ l.i. l.p - place l.initial.x l.i % l.p) l.initial.x l.x l.i
+invariant-loop-i l = Filled 0 l.n (λ i. l.p - place l.initial.x i % l.p) l.initial.x l.x l.i
 
 abbrev pub decreases-loop-i : goal.decreases-loop-i
 decreases-loop-i l = l.n - l.i
