@@ -3,7 +3,7 @@
 use native.Mathlib.Omega.{arith}
 use borrow.Author.Tests.{lt-ltb, le-ltb}
 use Rattle.scheme.proofs.Tests.{failed, passed}
-use Rattle.std.proofs.lemmas.Bool.{not-true, not-false}
+use Rattle.std.proofs.lemmas.Bool.{not_from_true, not_from_false}
 use Rattle.deal.proofs.range_refusal.Goals as goal
 
 pub returns-then-secret-p : goal.returns-then-secret-p
@@ -14,9 +14,9 @@ returns-then-secret-p c =
 pub returns-then-not-all_below : goal.returns-then-not-all_below
 returns-then-not-all_below c =
     let a = c.args in
-    simp (lt-ltb a.secret a.p (omega arith), failed c.all_below.ensures (not-true c.all_below.result c.if-not-all_below.true))
+    simp (lt-ltb a.secret a.p (omega arith), failed c.all_below.ensures (not_from_false c.all_below.result c.if-not-all_below.true))
 
 pub returns : goal.returns
 returns c =
     let a = c.args in
-    simp (lt-ltb a.secret a.p (omega arith), passed c.all_below.ensures (not-false c.all_below.result c.if-not-all_below.false))
+    simp (lt-ltb a.secret a.p (omega arith), passed c.all_below.ensures (not_from_true c.all_below.result c.if-not-all_below.false))

@@ -2,8 +2,8 @@
 -- Assumes nothing.
 use mathlib.Core.Path.{sym, ◌∙◌}
 use native.Mathlib.Omega.{arith}
-use borrow.Author.Tests.{not-true, not-false}
 use Rattle.join.proofs.Says.{rows_closed, rows_wrong, rows_code, opens_length}
+use Rattle.std.proofs.lemmas.Bool.{not_from_true, not_from_false}
 use Rattle.join.proofs.join_in.Goals as goal
 
 pub ask-a-requires : goal.ask-a-requires
@@ -17,7 +17,7 @@ ask-a-requires c =
 
 pub returns-then-not-opens : goal.returns-then-not-opens
 returns-then-not-opens c =
-    rows_closed _ c.requires.prime _ _ c.requires.le_d.2 _ _ _ _ _ _ _ _ c.ask-a.ensures (not-true _ c.if-not-opens.true)
+    rows_closed _ c.requires.prime _ _ c.requires.le_d.2 _ _ _ _ _ _ _ _ c.ask-a.ensures (not_from_false _ c.if-not-opens.true)
 
 pub fits-requires : goal.fits-requires
 fits-requires c =
@@ -30,20 +30,20 @@ fits-requires c =
 pub returns-then-not-fits : goal.returns-then-not-fits
 returns-then-not-fits c =
     rows_wrong _ c.requires.prime _ _ c.requires.le_d.2 _ _ _ _ _ _ _ _ c.ask-a.ensures
-    (not-false _ c.if-not-opens.false)
-    (c.fits2.ensures.no (not-true _ c.if-not-fits.true))
+    c.if-not-opens.false
+    (c.fits2.ensures.no c.if-not-fits.true)
 
 pub weighted-requires : goal.weighted-requires
 weighted-requires c =
     (
       omega (arith, c.requires.prime.two),
       opens_length _ _ _ _ _ _ _ _ _ _ c.ask-a.ensures
-          (not-false _ c.if-not-opens.false) ∙ sym c.requires.le_d.5,
+          (not_from_true _ c.if-not-opens.false) ∙ sym c.requires.le_d.5,
     )
 
 pub returns : goal.returns
 returns c =
     rows_code _ c.requires.prime _ _ c.requires.le_d.2 _ _ _ _ _ _ _ _
     c.ask-a.ensures
-    (not-false _ c.if-not-opens.false)
-    (c.fits2.ensures.yes (not-false _ c.if-not-fits.false)) _ _ c.requires.le_d.5 c.weighted.ensures
+    c.if-not-opens.false
+    (c.fits2.ensures.yes c.if-not-fits.false) _ _ c.requires.le_d.5 c.weighted.ensures

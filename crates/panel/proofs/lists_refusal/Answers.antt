@@ -30,7 +30,7 @@ returns-then-not-among c =
     let a = c.args in
     who_wrong (ltb a.cards (2 ^ a.s.n)) a.among (read_below_lem a.s.p a.cards a.labels.now a.stored.now) a.below 0
     (set_within (ltb a.cards (2 ^ a.s.n)) c.set_refusal-outside.ensures c.if-outside-ne0.false)
-    (not-true _ c.if-not-among.true)
+    c.if-not-among.true
     ∙ call_more a.s a.labels.now a.entries.now a.fits a.fits _ _ refl c.refusal-bad.ensures c.if-bad-ne0.false
 
 pub read_below-requires : goal.read_below-requires
@@ -47,7 +47,7 @@ returns-then-not-read_below c =
     let a = c.args in
     read_wrong (ltb a.cards (2 ^ a.s.n)) a.among (read_below_lem a.s.p a.cards a.labels.now a.stored.now) a.below 0
     (set_within (ltb a.cards (2 ^ a.s.n)) c.set_refusal-outside.ensures
-    c.if-outside-ne0.false) (not-false _ c.if-not-among.false)
+    c.if-outside-ne0.false) c.if-not-among.false
     (sym c.read_below.ensures ∙ not-true _ c.if-not-read_below.true)
     ∙ call_more a.s a.labels.now a.entries.now a.fits a.fits _ _ refl c.refusal-bad.ensures c.if-bad-ne0.false
 
@@ -56,9 +56,9 @@ returns-then-not-below c =
     let a = c.args in
     own_wrong (ltb a.cards (2 ^ a.s.n)) a.among (read_below_lem a.s.p a.cards a.labels.now a.stored.now) a.below 0
     (set_within (ltb a.cards (2 ^ a.s.n)) c.set_refusal-outside.ensures
-    c.if-outside-ne0.false) (not-false _ c.if-not-among.false)
+    c.if-outside-ne0.false) c.if-not-among.false
     (sym c.read_below.ensures ∙ not-false _ c.if-not-read_below.false)
-    (not-true _ c.if-not-below.true)
+    c.if-not-below.true
     ∙ call_more a.s a.labels.now a.entries.now a.fits a.fits _ _ refl c.refusal-bad.ensures c.if-bad-ne0.false
 
 pub returns : goal.returns
@@ -66,7 +66,7 @@ returns c =
     let a = c.args in
     none_wrong (ltb a.cards (2 ^ a.s.n)) a.among (read_below_lem a.s.p a.cards a.labels.now a.stored.now) a.below 0
     (set_within (ltb a.cards (2 ^ a.s.n)) c.set_refusal-outside.ensures
-    c.if-outside-ne0.false) (not-false _ c.if-not-among.false)
+    c.if-outside-ne0.false) c.if-not-among.false
     (sym c.read_below.ensures ∙ not-false _ c.if-not-read_below.false)
-    (not-false _ c.if-not-below.false)
+    c.if-not-below.false
     ∙ call_more a.s a.labels.now a.entries.now a.fits a.fits _ _ refl c.refusal-bad.ensures c.if-bad-ne0.false

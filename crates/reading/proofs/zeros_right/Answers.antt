@@ -7,7 +7,7 @@ use native.Mathlib.Omega.{arith}
 use Rattle.scheme.proofs.Tests.{failed, passed}
 use Rattle.reading.proofs.Contents.{content_length, zeros_content}
 use Rattle.reading.proofs.Trying.{try_start, try_turn, try_stop, try_end}
-use Rattle.std.proofs.lemmas.Bool.{not-true, not-false}
+use Rattle.std.proofs.lemmas.Bool.{not_from_true, not_from_false}
 use Rattle.reading.proofs.zeros_right.Goals as goal
 
 pub loop-b-init : goal.loop-b-init
@@ -25,13 +25,13 @@ pub returns-then-not-zeros_in : goal.returns-then-not-zeros_in
 returns-then-not-zeros_in c =
     let l = c.loop-b in
     let t = zeros_content _ l.b _ _ _ _ c.content.ensures c.zeros_in.ensures in
-    try_stop _ _ l.b (omega arith) (failed t (not-true c.zeros_in.result c.if-not-zeros_in.true))
+    try_stop _ _ l.b (omega arith) (failed t (not_from_false c.zeros_in.result c.if-not-zeros_in.true))
 
 pub loop-b-preserved : goal.loop-b-preserved
 loop-b-preserved c =
     let l = c.loop-b in
     let t = zeros_content _ l.b _ _ _ _ c.content.ensures c.zeros_in.ensures in
-    try_turn _ _ l.b l.invariant (omega arith) (passed t (not-false c.zeros_in.result c.if-not-zeros_in.false))
+    try_turn _ _ l.b l.invariant (omega arith) (passed t (not_from_true c.zeros_in.result c.if-not-zeros_in.false))
 
 pub returns : goal.returns
 returns c = let l = c.loop-b in try_end _ _ l.b l.invariant (omega arith)

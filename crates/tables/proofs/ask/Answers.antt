@@ -53,7 +53,7 @@ returns-then-closes c =
     c.if-closes.true c.closes.ensures.answer c.one_before.ensures in
     record {
       answer = (w.0, w.1, refl);
-      sizes = (same_length c, same-length-2 c, same-length-3 c, same-length-4 c, same-length-5 c);
+      sizes = ((c.closes.ensures.sizes.0), (c.closes.ensures.sizes.1), (c.closes.ensures.sizes.2), (c.closes.ensures.sizes.3), (c.closes.ensures.sizes.4));
     }
 
 pub weigh-requires : goal.weigh-requires
@@ -88,5 +88,5 @@ pub returns : goal.returns
 returns c =
     record {
       answer = (c.weigh.ensures.answer, c.weigh.ensures.sizes.4 ∙ c.requires.le_e.9, refl);
-      sizes = (same-length-7 c, same-length-8 c, same-length-9 c, same-length-10 c, same-length-11 c);
+      sizes = ((c.closes.ensures.sizes.0), (c.weigh.ensures.sizes.1 ∙ c.closes.ensures.sizes.1), (c.weigh.ensures.sizes.2 ∙ c.closes.ensures.sizes.2), (c.weigh.ensures.sizes.3 ∙ c.closes.ensures.sizes.3), (c.weigh.ensures.sizes.0 ∙ c.closes.ensures.sizes.4));
     }

@@ -42,5 +42,5 @@ pub returns : goal.returns
 returns c =
     record {
       answer = closing _ c.requires.prime _ _ c.requires.le_e.0 _ _ _ _ _ c.turn.ensures.turned c.negate.ensures c.others_give.ensures.answer;
-      sizes = (same_length c, same-length-2 c, same-length-3 c, same-length-4 c, same-length-5 c);
+      sizes = ((omega arith), (omega arith), (omega arith), (omega arith), (omega arith));
     }

@@ -97,5 +97,5 @@ returns c =
     record {
       answer = others_give_lem _ _ _ q.0 q.1 _ _ _ _ (c.find.ensures.sizes.3 ∙ part_length (e - 1) e c.args.c.now q.5 (omega arith))
           c.find.ensures.answer;
-      sizes = (same_length c, same-length-2 c, same-length-3 c, same-length-4 c);
+      sizes = ((omega arith), (omega arith), (omega arith), (omega arith));
     }

@@ -62,5 +62,5 @@ pub returns : goal.returns
 returns c =
     record {
       answer = opened _ _ _ _ _ _ _ c.requires.fact c.aim.ensures c.find.ensures.answer;
-      sizes = (same_length c, same-length-2 c, same-length-3 c, same-length-4 c, same-length-5 c);
+      sizes = ((omega arith), (omega arith), (omega arith), (omega arith), (omega arith));
     }
