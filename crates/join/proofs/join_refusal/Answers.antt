@@ -3,7 +3,7 @@
 use mathlib.Core.Bool.{true, false}
 use mathlib.Core.Path.{sym, ◌∙◌}
 use native.Mathlib.Omega.{arith}
-use borrow.Author.Tests.{eqb-true, not-true, not-false}
+use borrow.Author.Tests.{eqb-true}
 use Rattle.scheme.proofs.Refusals.{gone, valid, valid_fits}
 use Rattle.join.proofs.Refused.{early, set_refused, left_over}
 use Rattle.join.proofs.join_refusal.Goals as goal
@@ -35,10 +35,10 @@ pub returns-then-not-read_below : goal.returns-then-not-read_below
 returns-then-not-read_below c =
     left_over _ _ _ _ _ c.refusal-bad.ensures c.if-bad-ne0.false
     c.set_refusal-outside.ensures c.if-outside-ne0.false false
-    (sym c.read_below.ensures ∙ not-true _ c.if-not-read_below.true)
+    (sym c.read_below.ensures ∙ c.if-not-read_below.true)
 
 pub returns : goal.returns
 returns c =
     left_over _ _ _ _ _ c.refusal-bad.ensures c.if-bad-ne0.false
     c.set_refusal-outside.ensures c.if-outside-ne0.false true
-    (sym c.read_below.ensures ∙ not-false _ c.if-not-read_below.false)
+    (sym c.read_below.ensures ∙ c.if-not-read_below.false)

@@ -4,7 +4,6 @@ use native.Mathlib.Omega.{arith}
 use mathlib.Core.Path.{refl, sym, ◌∙◌}
 use Prim.Native.Nat.{◌^◌}
 use lib.Dec.{ltb}
-use borrow.Author.Tests.{not-true, not-false}
 use Rattle.scheme.specs.Refusal.{read_below_lem}
 use Rattle.scheme.proofs.Refusals.{gone, valid, call_stands, call_more}
 use Rattle.panel.proofs.Refused.{set_wrong, who_wrong, read_wrong, own_wrong, none_wrong, set_within}
@@ -48,7 +47,7 @@ returns-then-not-read_below c =
     read_wrong (ltb a.cards (2 ^ a.s.n)) a.among (read_below_lem a.s.p a.cards a.labels.now a.stored.now) a.below 0
     (set_within (ltb a.cards (2 ^ a.s.n)) c.set_refusal-outside.ensures
     c.if-outside-ne0.false) c.if-not-among.false
-    (sym c.read_below.ensures ∙ not-true _ c.if-not-read_below.true)
+    (sym c.read_below.ensures ∙ c.if-not-read_below.true)
     ∙ call_more a.s a.labels.now a.entries.now a.fits a.fits _ _ refl c.refusal-bad.ensures c.if-bad-ne0.false
 
 pub returns-then-not-below : goal.returns-then-not-below
@@ -57,7 +56,7 @@ returns-then-not-below c =
     own_wrong (ltb a.cards (2 ^ a.s.n)) a.among (read_below_lem a.s.p a.cards a.labels.now a.stored.now) a.below 0
     (set_within (ltb a.cards (2 ^ a.s.n)) c.set_refusal-outside.ensures
     c.if-outside-ne0.false) c.if-not-among.false
-    (sym c.read_below.ensures ∙ not-false _ c.if-not-read_below.false)
+    (sym c.read_below.ensures ∙ c.if-not-read_below.false)
     c.if-not-below.true
     ∙ call_more a.s a.labels.now a.entries.now a.fits a.fits _ _ refl c.refusal-bad.ensures c.if-bad-ne0.false
 
@@ -67,6 +66,6 @@ returns c =
     none_wrong (ltb a.cards (2 ^ a.s.n)) a.among (read_below_lem a.s.p a.cards a.labels.now a.stored.now) a.below 0
     (set_within (ltb a.cards (2 ^ a.s.n)) c.set_refusal-outside.ensures
     c.if-outside-ne0.false) c.if-not-among.false
-    (sym c.read_below.ensures ∙ not-false _ c.if-not-read_below.false)
+    (sym c.read_below.ensures ∙ c.if-not-read_below.false)
     c.if-not-below.false
     ∙ call_more a.s a.labels.now a.entries.now a.fits a.fits _ _ refl c.refusal-bad.ensures c.if-bad-ne0.false

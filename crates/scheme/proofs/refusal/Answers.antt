@@ -1,7 +1,7 @@
 -- `scheme::refusal` meets its contract: at each return what comes before it refuses nothing. d * e does not wrap, since both were tried.
 -- Assumes nothing.
 use native.Mathlib.Omega.{arith}
-use borrow.Author.Tests.{eq-eqb, ne_eqb, not-true, not-false}
+use borrow.Author.Tests.{eq-eqb, ne_eqb}
 use Rattle.scheme.proofs.Refusals.{stands, gone, or_else_none, rows_few}
 use Rattle.scheme.specs.Refusal.{refusal_of}
 use Rattle.scheme.proofs.refusal.Goals as goal
@@ -29,7 +29,7 @@ pub returns-then-not-fits : goal.returns-then-not-fits
 unfolding refusal_of
 returns-then-not-fits c =
     let z = gone c.numbers_refusal-bad.ensures c.if-bad-ne0.false in
-    let f = not-true c.args.fits c.if-not-fits.true in
+    let f = c.if-not-fits.true in
     simp (z, eq-eqb _ _ c.if-labels-s.false, eq-eqb _ _ c.if-entries-s.false, f)
 
 pub returns : goal.returns
@@ -38,5 +38,5 @@ returns c =
     let z = gone c.numbers_refusal-bad.ensures c.if-bad-ne0.false in
     let l = eq-eqb _ _ c.if-labels-s.false in
     let m = eq-eqb _ _ c.if-entries-s.false in
-    let f = not-false c.args.fits c.if-not-fits.false in
+    let f = c.if-not-fits.false in
     simp (z, l, m, f, or_else_none) c.content_refusal.ensures

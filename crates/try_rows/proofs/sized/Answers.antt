@@ -1,6 +1,5 @@
 -- `try_rows::sized` calls `matrix` as it requires: every modulus of the table is prime, and the parts have the lengths of their ranges.
 -- Assumes nothing.
-use borrow.Author.Tests.{not-false}
 use mathlib.Core.Path.{◌∙◌, sym}
 use Rattle.residue.proofs.Moduli.{modulus_prime}
 use native.Mathlib.Nat.{mul-le-mul}
@@ -14,7 +13,7 @@ overflow_mul-w c =
 
 pub matrix-requires : goal.matrix-requires
 matrix-requires c =
-    let prime = modulus_prime c.args.p (sym c.is_modulus.ensures ∙ not-false _ c.if-not-is_modulus.false) in
+    let prime = modulus_prime c.args.p (sym c.is_modulus.ensures ∙ c.if-not-is_modulus.false) in
     record {
       prime = prime;
       d_bound = (search rules, search rules, search rules, search rules, search rules, search rules);
