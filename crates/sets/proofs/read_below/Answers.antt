@@ -7,6 +7,7 @@ use native.Mathlib.Omega.{arith}
 use borrow.Author.Tests.{lt-ltb, le-ltb}
 use Rattle.sets.proofs.Read.{read_stop, read_go, read_skip, read_end}
 use Rattle.sets.proofs.read_below.Goals as goal
+use Rattle.sets.proofs.read_below.Goals.{then-in_set+else-shares-k, else-in_set}
 
 pub loop-k-init : goal.loop-k-init
 loop-k-init c = (omega arith, refl)
@@ -44,12 +45,12 @@ loop-k-preserved c =
     let l = c.loop-k in
     let t = c.loop-k-test.true in (
       omega arith,
-      ⊎_elim
-          (λ w. read_go _ _ c.args.labels.now c.args.shares.now l.k l.invariant.1 t c.requires.labels_len
-          (sym c.in_set.ensures ∙ w.0.taken) (lt-ltb _ _ w.2.left))
-          (λ w. read_skip _ _ c.args.labels.now c.args.shares.now l.k l.invariant.1 t c.requires.labels_len
-          (sym c.in_set.ensures ∙ w.left))
-          c.if-in_set.branch,
+      elim c.if-in_set.branch [
+        | then-in_set+else-shares-k w ↦ read_go _ _ c.args.labels.now c.args.shares.now l.k l.invariant.1 t c.requires.labels_len
+            (sym c.in_set.ensures ∙ w.if-in_set.true) (lt-ltb _ _ w.if-shares-k.false)
+        | else-in_set w ↦ read_skip _ _ c.args.labels.now c.args.shares.now l.k l.invariant.1 t c.requires.labels_len
+            (sym c.in_set.ensures ∙ w.if-in_set.false)
+      ],
     )
 
 pub returns : goal.returns
