@@ -1,0 +1,6 @@
+-- What falls from call to call of `digits::put_decimal` is the number.
+-- Assumes nothing.
+use Rattle.digits.proofs.+put_decimal.Given as goal
+
+abbrev pub decreases-put_decimal : goal.decreases-put_decimal
+decreases-put_decimal l = l.n
