@@ -30,8 +30,8 @@ fits-requires c =
 pub returns-then-not-fits : goal.returns-then-not-fits
 returns-then-not-fits c =
     rows_wrong _ c.requires.prime _ _ c.requires.le_d.2 _ _ _ _ _ _ _ _ c.ask-a.ensures
-    c.if-not-opens.false
-    (c.fits2.ensures.no c.if-not-fits.true)
+    (not_from_true _ c.if-not-opens.false)
+    (c.fits.ensures.no c.if-not-fits.true)
 
 pub weighted-requires : goal.weighted-requires
 weighted-requires c =
@@ -45,5 +45,5 @@ pub returns : goal.returns
 returns c =
     rows_code _ c.requires.prime _ _ c.requires.le_d.2 _ _ _ _ _ _ _ _
     c.ask-a.ensures
-    c.if-not-opens.false
-    (c.fits2.ensures.yes c.if-not-fits.false) _ _ c.requires.le_d.5 c.weighted.ensures
+    (not_from_true _ c.if-not-opens.false)
+    (c.fits.ensures.yes c.if-not-fits.false) _ _ c.requires.le_d.5 c.weighted.ensures

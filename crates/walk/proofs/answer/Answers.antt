@@ -7,7 +7,7 @@ use Rattle.walk.proofs.answer.Goals as goal
 pub returns-then-row-d : goal.returns-then-row-d
 returns-then-row-d c =
     record {
-      open = (λ l. refl);
+      «open» = (λ l. refl);
       closed = λ l. absurd (omega arith);
     }
 
@@ -25,6 +25,6 @@ witness_row-requires c =
 pub returns : goal.returns
 returns c =
     record {
-      open = (λ l. absurd (omega arith));
+      «open» = (λ l. absurd (omega arith));
       closed = λ l. c.witness_row.ensures;
     }

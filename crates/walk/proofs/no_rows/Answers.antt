@@ -1,6 +1,7 @@
 -- `walk::no_rows` meets its contract: rows of zeros, computed.
 -- Assumes nothing.
 use mathlib.Core.Path.{refl, ap}
+use mathlib.Core.List.{[]}
 use lib.ListN.{length, replicate, get_or-replicate}
 use Rattle.walk.proofs.no_rows.Goals as goal
 
