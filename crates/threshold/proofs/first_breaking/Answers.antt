@@ -12,59 +12,8 @@ use Rattle.rows.proofs.Turns.{store_room}
 use Rattle.rows.proofs.Verdict.{unmet_start, unmet_next}
 use Rattle.threshold.proofs.Search.{Told, not_here, told_closed, told_open, set_keeps, set_breaks}
 use Rattle.threshold.proofs.Search.{search_start, search_on, search_found, search_end}
-use Rattle.threshold.proofs.first_breaking.Reads as reads
-use Rattle.threshold.proofs.first_breaking.Lts as lts
-use Rattle.residue.proofs.ratio.Reads as ratio
-use Rattle.sets.proofs.chosen_rows.Reads as chosen-rows
-use Rattle.rows.proofs.blank.Reads as blank
-use Rattle.rows.proofs.next_line.Reads as next-line
-use Rattle.rows.proofs.store.Reads as store
-use Rattle.threshold.proofs.sets_end.Reads as Sets-end
-use Rattle.threshold.proofs.is_target.Reads as is-target
-use Rattle.threshold.proofs.breaks.Reads as breaks
 use Rattle.threshold.proofs.first_breaking.Goals as goal
-
--- The place after the inner loop, with the contracts of the functions that are called.
-abbrev Ended : Type 0
-Ended = lts.Joined2 (
-  ratio.Asked,
-  ratio.Learnt,
-  Sets-end.Asked,
-  Sets-end.Learnt,
-  chosen-rows.Asked,
-  chosen-rows.Learnt,
-  blank.Asked,
-  blank.Learnt,
-  next-line.Asked,
-  next-line.Learnt,
-  is-target.Asked,
-  is-target.Learnt,
-  store.Asked,
-  store.Learnt,
-  breaks.Asked,
-  breaks.Learnt,
-) reads.Pre reads.Post invariant-rows decreases-rows invariant-sets decreases-sets
-
--- What the loop found of the set, by either way out.
-told : (c : Ended) → Told
-    c.before.before.before.before.before.before.before.before.before.before.before.args.s
-    c.before.before.before.before.before.before.before.before.before.before.before.args.labels.now
-    c.before.before.before.before.before.before.before.before.before.before.before.args.entries.now
-    c.before.before.before.before.before.before.sets.set c.if2.opens
-told c =
-    let s = c.before.before.before.before.before.before.before.before.before.before.before in
-    let set = c.before.before.before.before.before.before.sets.set in
-    let chosen = c.before.before.before.before.chosen-rows in
-    let l = c.before.before.rows in
-    let o = c.if2.opens in
-    ⊎_elim
-    (λ w. told_closed s.args.s s.args.labels.now s.args.entries.now set chosen.result s.requires.0 s.requires.1.0.2
-    s.requires.1.0.3 s.requires.1.0.4 chosen.ensures.0 l.k l.lines l.table l.invariant.1 o
-    (omega (arith, w.0.taken, l.invariant.0)) w.1)
-    (λ w. told_open s.args.s s.args.labels.now s.args.entries.now set chosen.result s.requires.0 s.requires.1.0.2
-    s.requires.1.0.3 s.requires.1.0.4 chosen.ensures.0 l.k l.lines l.table l.invariant.1 o
-    w.2.result w.4.result w.0.left w.2.ensures w.4.ensures w.5.taken w.6)
-    c.if2.branch
+use Rattle.threshold.proofs.first_breaking.Goals.{then-s-k, else-s-k+then-is_target}
 
 pub ratio-inv-requires : goal.ratio-inv-requires
 ratio-inv-requires c = let two = c.requires.prime.two in omega arith
@@ -100,12 +49,12 @@ next_line-v-requires c =
     record {
       prime = c.requires.prime;
       le_e = (
-          c.requires.n_bound.2,
-          c.requires.n_bound.3,
-          omega (arith, c.requires.n_bound.1),
-          omega (arith, c.requires.n_bound.3, c.requires.n_bound.2),
-          omega (arith, row_fits l.k c.args.s.d c.args.s.e (omega arith), c.requires.n_bound.5),
-        );
+        c.requires.n_bound.2,
+        c.requires.n_bound.3,
+        omega (arith, c.requires.n_bound.1),
+        omega (arith, c.requires.n_bound.3, c.requires.n_bound.2),
+        omega (arith, row_fits l.k c.args.s.d c.args.s.e (omega arith), c.requires.n_bound.5),
+      );
       ratio = c.ratio-inv.ensures.1;
       low = (λ lp i. let h = c.requires.by_index_2 i in omega arith);
       lows = st.lows;
@@ -144,12 +93,24 @@ rows-preserved c =
 pub sets-preserved : goal.sets-preserved
 sets-preserved c =
     let set = c.sets.set in
-    let end = c.sets_end-end in (
+    let end = c.sets_end-end in
+    let told : Told c.args.s c.args.labels.now c.args.entries.now set c.if-s-k.opens =
+    elim c.if-s-k.branch [
+      | then-s-k w ↦ told_closed c.args.s c.args.labels.now c.args.entries.now set c.chosen_rows-chosen.result
+          c.requires.prime c.requires.n_bound.2 c.requires.n_bound.3 c.requires.n_bound.4 c.chosen_rows-chosen.ensures.bits
+          c.rows.k c.rows.lines c.rows.table c.rows.invariant.1 c.if-s-k.opens (omega (arith, w.if-s-k.true, c.rows.invariant.0))
+          w.opens-is
+      | else-s-k+then-is_target w ↦ told_open c.args.s c.args.labels.now c.args.entries.now set c.chosen_rows-chosen.result
+          c.requires.prime c.requires.n_bound.2 c.requires.n_bound.3 c.requires.n_bound.4 c.chosen_rows-chosen.ensures.bits
+          c.rows.k c.rows.lines c.rows.table c.rows.invariant.1 c.if-s-k.opens
+          w.next_line-v.result w.is_target.result w.if-s-k.false w.next_line-v.ensures w.is_target.ensures w.if-is_target.true
+          w.opens-is
+    ] in (
       omega arith,
       search_on c.args.s c.args.labels.now c.args.entries.now c.args.t set
           c.sets.invariant.1
           (set_keeps c.args.s c.args.labels.now c.args.entries.now c.args.t set (omega (arith, end.ensures))
-          c.if-s-k.opens c.breaks.result (told c)
+          c.if-s-k.opens c.breaks.result told
           c.breaks.ensures c.if-breaks.false),
     )
 
@@ -163,8 +124,20 @@ pub returns-then-breaks : goal.returns-then-breaks
 returns-then-breaks c =
     let set = c.sets.set in
     let end = c.sets_end-end in
+    let told : Told c.args.s c.args.labels.now c.args.entries.now set c.if-s-k.opens =
+    elim c.if-s-k.branch [
+      | then-s-k w ↦ told_closed c.args.s c.args.labels.now c.args.entries.now set c.chosen_rows-chosen.result
+          c.requires.prime c.requires.n_bound.2 c.requires.n_bound.3 c.requires.n_bound.4 c.chosen_rows-chosen.ensures.bits
+          c.rows.k c.rows.lines c.rows.table c.rows.invariant.1 c.if-s-k.opens (omega (arith, w.if-s-k.true, c.rows.invariant.0))
+          w.opens-is
+      | else-s-k+then-is_target w ↦ told_open c.args.s c.args.labels.now c.args.entries.now set c.chosen_rows-chosen.result
+          c.requires.prime c.requires.n_bound.2 c.requires.n_bound.3 c.requires.n_bound.4 c.chosen_rows-chosen.ensures.bits
+          c.rows.k c.rows.lines c.rows.table c.rows.invariant.1 c.if-s-k.opens
+          w.next_line-v.result w.is_target.result w.if-s-k.false w.next_line-v.ensures w.is_target.ensures w.if-is_target.true
+          w.opens-is
+    ] in
     let inside : set < 2 ^ c.args.s.n = omega (arith, end.ensures) in
     search_found c.args.s c.args.labels.now c.args.entries.now c.args.t set inside
     c.sets.invariant.1
     (set_breaks c.args.s c.args.labels.now c.args.entries.now c.args.t set inside c.if-s-k.opens
-    c.breaks.result (told c) c.breaks.ensures c.if-breaks.true)
+    c.breaks.result told c.breaks.ensures c.if-breaks.true)
