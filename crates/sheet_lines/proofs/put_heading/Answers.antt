@@ -6,12 +6,10 @@ use Rattle.sheet_lines.proofs.put_heading.Goals as goal
 
 pub returns : goal.returns
 returns c =
-    let from =
-    c in
     let w = c.put_text-at.ensures in
     let l = c.put_text.ensures in
-    let room = from.pre.2 in
+    let room = c.requires.2 in
     record {
-      put = put_head from.args.out.now from.args.s w c.put_field-at.ensures.put c.put_field-at-2.ensures.put c.put_field-at-3.ensures.put c.put_field-at-4.ensures.put l;
+      put = put_head c.args.out.now c.args.s w c.put_field-at.ensures.put c.put_field-at-2.ensures.put c.put_field-at-3.ensures.put c.put_field-at-4.ensures.put l;
       room = omega (arith, w.0, c.put_field-at.ensures.room, c.put_field-at-2.ensures.room, c.put_field-at-3.ensures.room, c.put_field-at-4.ensures.room, l.0, room);
     }

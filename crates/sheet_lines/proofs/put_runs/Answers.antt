@@ -53,19 +53,19 @@ put_run-end-requires c =
     record {
       prime = c.requires.prime;
       p_bound = (
-          t.0,
-          t.1,
-          t.2,
-          t.3,
-          t.4,
-          t.5,
-          t.6,
-          l.3 ∙ t.7,
-          l.4 ∙ t.8,
-          omega (arith, h, n.1, t.9),
-          n.0,
-          omega (arith, h, n.1, l.1, l.2, t.10),
-        );
+        t.0,
+        t.1,
+        t.2,
+        t.3,
+        t.4,
+        t.5,
+        t.6,
+        l.3 ∙ t.7,
+        l.4 ∙ t.8,
+        omega (arith, h, n.1, t.9),
+        n.0,
+        omega (arith, h, n.1, l.1, l.2, t.10),
+      );
       by_index = c.requires.by_index;
       by_index_2 = c.requires.by_index_2;
       kept = c.fill.ensures;
@@ -93,12 +93,12 @@ loop-i-preserved c =
     let n = c.run_length-some in
     let h = c.loop-i-test.true in (
       omega (arith, h, n.ensures.1),
-      omega (arith, l.inv.1, p.ensures.room),
-      p.auto.out ∙ l.inv.2,
-      p.auto.r ∙ l.inv.3,
-      p.auto.z ∙ l.inv.4,
+      omega (arith, l.invariant.1, p.ensures.room),
+      p.auto.out ∙ l.invariant.2,
+      p.auto.r ∙ l.invariant.3,
+      p.auto.z ∙ l.invariant.4,
       c.fill.ensures.places,
-      lines_join a.s a.labels.now a.entries.now a.first a.out.now 0 l.i n.result l.inv.6 p.ensures.put,
+      lines_join a.s a.labels.now a.entries.now a.first a.out.now 0 l.i n.result l.invariant.6 p.ensures.put,
     )
 
 pub returns : goal.returns
