@@ -8,6 +8,7 @@ use Rattle.panel.proofs.Laying.{own_here, own_not, lay_here, lay_not, lay_end}
 use native.Mathlib.Omega.{arith}
 use borrow.Author.Rules.{rules}
 use Rattle.panel.proofs.lay.Goals as goal
+use Rattle.panel.proofs.lay.Goals.{then-labels-i, else-labels-i}
 
 pub bounds-shares-k : goal.bounds-shares-k
 bounds-shares-k c =
@@ -18,24 +19,24 @@ pub loop-i-preserved : goal.loop-i-preserved
 loop-i-preserved c =
     let l = c.loop-i in
     let a = c.args in
-    ⊎_elim
-    (λ w.
-    let e = own_here a.who a.labels.now l.i (search rules) w.0.taken in (
-      search rules,
-      rw w.2 (simp length-set l.invariant.1),
-      omega arith,
-      rw (w.2, w.3) (sym (lay_here a.who a.labels.now l.i (search rules) a.shares.now l.stored l.k (search rules)
-          w.0.taken (omega arith)) ∙ l.invariant.3),
-    ))
-    (λ w.
-    let e = own_not a.who a.labels.now l.i (search rules) w.0.left in (
-      search rules,
-      rw w.1 l.invariant.1,
-      omega arith,
-      rw (w.1, w.2) (sym (lay_not a.who a.labels.now l.i (search rules) a.shares.now l.stored l.k (search rules)
-          w.0.left) ∙ l.invariant.3),
-    ))
-    c.if-labels-i.branch
+    elim c.if-labels-i.branch [
+      then-labels-i w ↦
+          let e = own_here a.who a.labels.now l.i (search rules) w.if-labels-i.true in (
+            search rules,
+            rw w.stored-is (simp length-set l.invariant.1),
+            omega arith,
+            rw (w.stored-is, w.k-is) (sym (lay_here a.who a.labels.now l.i (search rules) a.shares.now l.stored l.k (search rules)
+                w.if-labels-i.true (omega arith)) ∙ l.invariant.3),
+          )
+      | else-labels-i w ↦
+          let e = own_not a.who a.labels.now l.i (search rules) w.if-labels-i.false in (
+            search rules,
+            rw w.stored-is l.invariant.1,
+            omega arith,
+            rw (w.stored-is, w.k-is) (sym (lay_not a.who a.labels.now l.i (search rules) a.shares.now l.stored l.k (search rules)
+                w.if-labels-i.false) ∙ l.invariant.3),
+          )
+    ]
 
 pub returns : goal.returns
 returns c =

@@ -10,16 +10,6 @@ use Rattle.join.proofs.Says.{refused_early}
 use Rattle.panel.proofs.Refused.{numbers_stand, rows_at_most}
 use Rattle.panel.proofs.Panel.code.Goals as goal
 
--- An array in a field has its declared length.
-labels_length : (c : tie.Start) → length c.args.self.labels ≡ 32
-labels_length c = sym (length-map c.args.self.labels (λ (v : ℕ). v)) ∙ c.well-formed.0.1.1.1.1.1.1.1.0.1.0.1
-
-entries_length : (c : tie.Start) → length c.args.self.entries ≡ 384
-entries_length c = sym (length-map c.args.self.entries (λ (v : ℕ). v)) ∙ c.well-formed.0.1.1.1.1.1.1.1.1.0.1.0.1
-
-stored-length : (c : tie.Start) → length c.args.self.stored ≡ 32
-stored-length c = sym (length-map c.args.self.stored (λ (v : ℕ). v)) ∙ c.well-formed.0.1.1.1.1.1.1.1.1.1.0.1.0.1
-
 pub returns-then-bad-ne0 : goal.returns-then-bad-ne0
 returns-then-bad-ne0 c =
     record {
@@ -32,7 +22,7 @@ overflow_mul-m c = omega (arith, rows_few _ (gone c.numbers_refusal-bad.ensures 
 
 pub slice_bounds-join-end : goal.slice_bounds-join-end
 slice_bounds-join-end c =
-    omega (arith, labels_length c, rows_at_most _ (gone c.numbers_refusal-bad.ensures c.if-bad-ne0.false))
+    let h = c.well_formed in ?
 
 pub slice_bounds-join-end-2 : goal.slice_bounds-join-end-2
 slice_bounds-join-end-2 c = omega (arith, entries_length c, rows_few _ (gone c.numbers_refusal-bad.ensures c.if-bad-ne0.false))

@@ -11,13 +11,6 @@ use Rattle.panel.proofs.Refused.{put_accepted}
 use Rattle.panel.proofs.Answers.{told_refused, put_done}
 use Rattle.panel.proofs.Panel.put.Goals as goal
 
--- An array in a field has its declared length.
-labels_length : (c : tie.Start) → length c.args.self.labels ≡ 32
-labels_length c = sym (length-map c.args.self.labels (λ (v : ℕ). v)) ∙ c.well-formed.0.1.1.1.1.1.1.1.0.1.0.1
-
-stored-length : (c : tie.Start) → length c.args.self.stored ≡ 32
-stored-length c = sym (length-map c.args.self.stored (λ (v : ℕ). v)) ∙ c.well-formed.0.1.1.1.1.1.1.1.1.1.0.1.0.1
-
 pub returns-then-bad-ne0 : goal.returns-then-bad-ne0
 returns-then-bad-ne0 c = told_refused _ _ _ _ c.put_refusal-bad.ensures c.if-bad-ne0.true
 

@@ -10,16 +10,6 @@ use Rattle.scheme.proofs.Refusals.{gone, rows_few}
 use Rattle.panel.proofs.Refused.{numbers_stand, rows_at_most}
 use Rattle.panel.proofs.Panel.take_refusal.Goals as goal
 
--- An array in a field has its declared length.
-labels_length : (c : tie.Start) → length c.args.self.labels ≡ 32
-labels_length c = sym (length-map c.args.self.labels (λ (v : ℕ). v)) ∙ c.well-formed.0.1.1.1.1.1.1.1.0.1.0.1
-
-entries_length : (c : tie.Start) → length c.args.self.entries ≡ 384
-entries_length c = sym (length-map c.args.self.entries (λ (v : ℕ). v)) ∙ c.well-formed.0.1.1.1.1.1.1.1.1.0.1.0.1
-
-stored-length : (c : tie.Start) → length c.args.self.stored ≡ 32
-stored-length c = sym (length-map c.args.self.stored (λ (v : ℕ). v)) ∙ c.well-formed.0.1.1.1.1.1.1.1.1.1.0.1.0.1
-
 pub returns-then-bad-ne0 : goal.returns-then-bad-ne0
 returns-then-bad-ne0 c = numbers_stand _ _ _ _ _ c.numbers_refusal-bad.ensures c.if-bad-ne0.true
 
