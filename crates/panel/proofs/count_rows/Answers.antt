@@ -13,7 +13,7 @@ loop-i-preserved c =
     let l = c.loop-i in
     let a = c.args in
     elim c.if-labels-i.branch [
-      then-labels-i w ↦ let e = own_here a.who a.labels.now l.i (search rules) w.if-labels-i.true in omega arith
+      | then-labels-i w ↦ let e = own_here a.who a.labels.now l.i (search rules) w.if-labels-i.true in omega arith
       | else-labels-i w ↦ let e = own_not a.who a.labels.now l.i (search rules) w.if-labels-i.false in omega arith
     ]
 

@@ -20,7 +20,7 @@ loop-i-preserved c =
     let l = c.loop-i in
     let a = c.args in
     elim c.if-labels-i.branch [
-      then-labels-i w ↦
+      | then-labels-i w ↦
           let e = own_here a.who a.labels.now l.i (search rules) w.if-labels-i.true in (
             search rules,
             rw w.stored-is (simp length-set l.invariant.1),

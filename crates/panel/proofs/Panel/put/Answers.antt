@@ -21,15 +21,17 @@ pub slice_bounds-lay-end : goal.slice_bounds-lay-end
 slice_bounds-lay-end c =
     let a = c.args in
     let h = put_accepted a.self a.who a.shares.now (gone c.put_refusal-bad.ensures c.if-bad-ne0.false) in
-    omega (arith, labels_length c, h.rows)
+    let few = h.rows in grind arith
 
 pub lay-requires : goal.lay-requires
 lay-requires c =
     let a = c.args in
     let h = put_accepted a.self a.who a.shares.now (gone c.put_refusal-bad.ensures c.if-bad-ne0.false) in
-    let labels = part_length _ 32 a.self.labels (labels_length c) h.rows in
+    let all : length a.self.labels ≡ 32 = grind arith in
+    let places : length a.self.stored ≡ 32 = grind arith in
+    let labels = part_length _ 32 a.self.labels all h.rows in
     record {
-      labels_in_bounds = omega (arith, labels, h.rows, stored-length c);
+      labels_in_bounds = omega (arith, labels, h.rows, places);
       shares_len = simp sub-zero h.places;
     }
 

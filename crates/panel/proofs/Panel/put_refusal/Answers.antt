@@ -18,18 +18,19 @@ overflow_mul-m c = omega (arith, rows_few _ (gone c.numbers_refusal-bad.ensures 
 
 pub slice_bounds-put_lists_refusal-end : goal.slice_bounds-put_lists_refusal-end
 slice_bounds-put_lists_refusal-end c =
-    omega (arith, labels_length c, rows_at_most _ (gone c.numbers_refusal-bad.ensures c.if-bad-ne0.false))
+    let few = rows_at_most _ (gone c.numbers_refusal-bad.ensures c.if-bad-ne0.false) in grind arith
 
 pub slice_bounds-put_lists_refusal-end-2 : goal.slice_bounds-put_lists_refusal-end-2
-slice_bounds-put_lists_refusal-end-2 c = omega (arith, entries_length c, rows_few _ (gone c.numbers_refusal-bad.ensures c.if-bad-ne0.false))
+slice_bounds-put_lists_refusal-end-2 c = let few = rows_few _ (gone c.numbers_refusal-bad.ensures c.if-bad-ne0.false) in grind arith
 
 pub slice_bounds-put_lists_refusal-end-3 : goal.slice_bounds-put_lists_refusal-end-3
 slice_bounds-put_lists_refusal-end-3 c =
-    omega (arith, stored-length c, rows_at_most _ (gone c.numbers_refusal-bad.ensures c.if-bad-ne0.false))
+    let few = rows_at_most _ (gone c.numbers_refusal-bad.ensures c.if-bad-ne0.false) in grind arith
 
 pub put_lists_refusal-requires : goal.put_lists_refusal-requires
 put_lists_refusal-requires c =
-    part_length _ 32 c.args.self.stored (stored-length c)
+    let places : length c.args.self.stored ≡ 32 = grind arith in
+    part_length _ 32 c.args.self.stored places
     (rows_at_most _ (gone c.numbers_refusal-bad.ensures c.if-bad-ne0.false))
 
 pub returns : goal.returns
