@@ -3,7 +3,7 @@
 use mathlib.Core.Path.{◌≡◌, refl, sym, ap, ap₂, ◌∙◌}
 use mathlib.Core.Bool.{Bool}
 use mathlib.Core.Logic.{◌↔◌}
-use Prim.Native.Nat.{ℕ, zero, suc, ◌<◌, ◌+◌, ◌-◌, ◌*◌, ◌%◌}
+use Prim.Native.Nat.{ℕ, zero, suc, ◌<◌, ◌+◌, ◌*◌, ◌%◌}
 use native.Mathlib.Nat.{mod-eq_of_lt, zero-mod}
 use native.Mathlib.Omega.{arith}
 use Rattle.algebra.specs.Sum.{sum, dot}

@@ -4,7 +4,7 @@
 use mathlib.Core.Path.{◌≡◌, refl, sym, ap, ap₂, ◌∙◌, subst}
 use mathlib.Core.Bool.{Bool, false}
 use mathlib.Core.Logic.{◌⊎◌, inl, inr, ⊎_elim}
-use Prim.Native.Nat.{ℕ, zero, suc, ◌<◌, ◌*◌, ◌%◌}
+use Prim.Native.Nat.{ℕ, suc, ◌<◌, ◌*◌, ◌%◌}
 use native.Mathlib.Omega.{arith}
 use Rattle.residue.specs.Prime.{Prime}
 use Rattle.residue.specs.Residue.{res}

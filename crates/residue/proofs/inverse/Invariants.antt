@@ -1,6 +1,5 @@
 -- `residue::inverse` meets its contract. The loop's invariant: acc times x is y modulo p, and y is a residue that is not 0.
 -- y falls since p % y is below y, and does not reach 0 since p is prime. Assumes nothing.
-use Prim.Native.Nat.{◌-◌}
 use Rattle.residue.proofs.Arith.{Inverting}
 use Rattle.residue.proofs.inverse.Given as goal
 

@@ -1,6 +1,5 @@
 -- `residue::is_modulus` meets its contract. The loop's invariant: p is in what is left of the table exactly if it is in the table.
 -- Assumes nothing.
-use Prim.Native.Nat.{◌-◌}
 use borrow.Author.Rules.{rules}
 use Rattle.residue.specs.Moduli.{moduli}
 use Rattle.residue.proofs.Moduli.{is_here, is_later, is_nowhere}
