@@ -1,6 +1,6 @@
 -- How the builder of src/lib.rt goes through a text and writes rows and labels, step by step. No public contract cites this file.
 -- Assumes nothing.
-use Rattle.std.specs.Prelude.{◌≡◌, Bool, true, false, cond, List, [], ℕ, zero, suc, ◌+◌, ◌-◌, ◌*◌, ◌<◌, eqb, ltb, length, set}
+use Rattle.std.specs.Prelude.{◌≡◌, Bool, true, false, cond, List, ℕ, zero, suc, ◌+◌, ◌-◌, ◌*◌, ◌<◌, eqb, ltb, length, set}
 use Rattle.reader.specs.declared.Read.{Read}
 use Rattle.reader.specs.declared.Read.TheVariants.{At, Bad}
 use Rattle.reader.specs.Grammar.{kind_at, tag, is_digit, is_or, is_and, is_open, is_close, digit, number_end_lem, atom_end}

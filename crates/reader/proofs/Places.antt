@@ -8,7 +8,7 @@ use native.Mathlib.Omega.{arith}
 use lib.Dec.{T, ltb, eqb, leb}
 use lib.ListN.{length}
 use mir.Val.{has_key}
-use types.Run.{OneOf, miss}
+use types.Run.{OneOf, hit, miss}
 use denote.Enum.Declared.{tag_of}
 use borrow.Author.Tests.{ltb-true, eq-eqb, ne_eqb, le-ltb}
 use Rattle.reader.specs.contracts.Kind.{the_type}
@@ -60,6 +60,40 @@ no_tag tags g t k h e = miss tags g t (subst (λ (x : ℕ). OneOf tags x) (sym (
 
 pub not_tag : (tags : List ℕ) (g : ℕ) → T (not (has_key tags g)) → (k : Kind) → OneOf tags (tag_of the_type k) → eqb (tag k) g ≡ false
 not_tag tags g t k h = ne_eqb (tag k) g (no_tag tags g t k h)
+
+-- The arm of `_` says which kinds it has not: the tags of the others are left.
+left : (tags : List ℕ) (k : Kind)
+    → ((d : ℕ) → k ≡ Digit d → T (has_key tags 0))
+    → (k ≡ Zero → T (has_key tags 1))
+    → (k ≡ Or → T (has_key tags 2))
+    → (k ≡ And → T (has_key tags 3))
+    → (k ≡ Open → T (has_key tags 4))
+    → (k ≡ Close → T (has_key tags 5))
+    → (k ≡ Other → T (has_key tags 6))
+    → OneOf tags (tag_of the_type k)
+left tags (Digit e) d z o a p c x = hit tags 0 (d e refl)
+left tags Zero d z o a p c x = hit tags 1 (z refl)
+left tags Or d z o a p c x = hit tags 2 (o refl)
+left tags And d z o a p c x = hit tags 3 (a refl)
+left tags Open d z o a p c x = hit tags 4 (p refl)
+left tags Close d z o a p c x = hit tags 5 (c refl)
+left tags Other d z o a p c x = hit tags 6 (x refl)
+
+module _ (k : Kind) where
+  pub left_or : (k ≡ Or → ⊥) → OneOf (0 ∷ 1 ∷ 3 ∷ 4 ∷ 5 ∷ 6 ∷ []) (tag_of the_type k)
+  left_or o = left (0 ∷ 1 ∷ 3 ∷ 4 ∷ 5 ∷ 6 ∷ []) k (λ _ _. tt) (λ _. tt) o (λ _. tt) (λ _. tt) (λ _. tt) (λ _. tt)
+
+  pub left_and : (k ≡ And → ⊥) → OneOf (0 ∷ 1 ∷ 2 ∷ 4 ∷ 5 ∷ 6 ∷ []) (tag_of the_type k)
+  left_and a = left (0 ∷ 1 ∷ 2 ∷ 4 ∷ 5 ∷ 6 ∷ []) k (λ _ _. tt) (λ _. tt) (λ _. tt) a (λ _. tt) (λ _. tt) (λ _. tt)
+
+  pub left_close : (k ≡ Close → ⊥) → OneOf (0 ∷ 1 ∷ 2 ∷ 3 ∷ 4 ∷ 6 ∷ []) (tag_of the_type k)
+  left_close c = left (0 ∷ 1 ∷ 2 ∷ 3 ∷ 4 ∷ 6 ∷ []) k (λ _ _. tt) (λ _. tt) (λ _. tt) (λ _. tt) (λ _. tt) c (λ _. tt)
+
+  pub left_digit : ((d : ℕ) → k ≡ Digit d → ⊥) → (k ≡ Zero → ⊥) → OneOf (2 ∷ 3 ∷ 4 ∷ 5 ∷ 6 ∷ []) (tag_of the_type k)
+  left_digit d z = left (2 ∷ 3 ∷ 4 ∷ 5 ∷ 6 ∷ []) k d z (λ _. tt) (λ _. tt) (λ _. tt) (λ _. tt) (λ _. tt)
+
+  pub left_atom : ((d : ℕ) → k ≡ Digit d → ⊥) → (k ≡ Open → ⊥) → OneOf (1 ∷ 2 ∷ 3 ∷ 5 ∷ 6 ∷ []) (tag_of the_type k)
+  left_atom d p = left (1 ∷ 2 ∷ 3 ∷ 5 ∷ 6 ∷ []) k d (λ _. tt) (λ _. tt) (λ _. tt) p (λ _. tt) (λ _. tt)
 
 pub not_or : (k : Kind) → OneOf (0 ∷ 1 ∷ 3 ∷ 4 ∷ 5 ∷ 6 ∷ []) (tag_of the_type k) → is_or k ≡ false
 not_or k h = not_tag (0 ∷ 1 ∷ 3 ∷ 4 ∷ 5 ∷ 6 ∷ []) 2 tt k h

@@ -7,8 +7,8 @@ use Rattle.builder.proofs.unit.Goals as goal
 
 pub returns-then-c-lt12 : goal.returns-then-c-lt12
 unfolding modulo
-returns-then-c-lt12 c = refl
+returns-then-c-lt12 c p = refl
 
 pub returns-else-c-lt12 : goal.returns-else-c-lt12
 unfolding modulo
-returns-else-c-lt12 c = sym (set_out _ _ _ c.if-c-lt12.false)
+returns-else-c-lt12 c p = sym (set_out _ _ _ c.if-c-lt12.false)

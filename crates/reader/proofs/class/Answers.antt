@@ -1,7 +1,9 @@
 -- `reader::class` meets its contract.
 -- Assumes nothing.
 use native.Mathlib.Omega.{arith}
-use borrow.Author.Tests.{le-leb, lt-leb, ne_eqb}
+use borrow.Author.Tests.{le-leb}
+use Rattle.std.proofs.lemmas.Bool.Decides.{nat_tests}
+use Rattle.std.proofs.Common.{tests, rules}
 use Rattle.reader.specs.Grammar.{class_of}
 use Rattle.reader.proofs.class.Goals as goal
 
@@ -31,23 +33,8 @@ returns-in-49-to-57 c = simp (le-leb 49 c.args.b (omega arith), le-leb c.args.b 
 
 pub returns-in_default : goal.returns-in_default
 unfolding class_of
-returns-in_default c =
-    let r = c.in_default-1.rest in
-    simp (
-      lt-leb 49 c.args.b (omega arith),
-      ne_eqb _ _ r.0.0.0.0.1,
-      ne_eqb _ _ r.0.0.0.1,
-      ne_eqb _ _ r.0.0.1,
-      ne_eqb _ _ r.0.1,
-      ne_eqb _ _ r.1,
-    )
+returns-in_default c = grind (arith, nat_tests)
 
 pub returns-in_default-2 : goal.returns-in_default-2
 unfolding class_of
-returns-in_default-2 c =
-    let r = c.in_default-1.rest in
-    simp (
-      le-leb 49 c.args.b (omega arith),
-      lt-leb c.args.b 57 (omega arith),
-      ne_eqb _ _ r.0.0.0.1,
-    )
+returns-in_default-2 c = search (tests, rules)

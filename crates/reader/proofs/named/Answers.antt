@@ -1,7 +1,6 @@
 -- `reader::named` meets its contract. The loop's invariant: what is left, after the number that is written so far, gives the answer.
 -- Assumes nothing.
 use mathlib.Core.Path.{refl}
-use Prim.Native.Nat.{◌-◌}
 use native.Mathlib.Omega.{arith}
 use Rattle.reader.proofs.Passes.{up_to_stop, up_to_go, up_to_end}
 use Rattle.reader.proofs.named.Goals as goal

@@ -1,6 +1,5 @@
 -- `reader::occurrences` meets its contract. The loop's invariant: what is counted and what is left give the answer.
 -- Assumes nothing.
-use Prim.Native.Nat.{◌-◌}
 use native.Mathlib.Omega.{arith}
 use Rattle.reader.proofs.Passes.{occurs_go, occurs_end}
 use Rattle.reader.proofs.occurrences.Goals as goal

@@ -1,6 +1,7 @@
 -- `reader::refusal` meets its contract.
 -- Assumes nothing.
 use native.Mathlib.Omega.{arith}
+use Rattle.std.proofs.lemmas.Bool.{not_from_true, not_from_false}
 use Rattle.scheme.proofs.Tests.{failed, passed}
 use Rattle.reader.proofs.Refused.{no_rule, above_n, joins_few, many_rows, many_columns, nothing}
 use Rattle.reader.proofs.refusal.Goals as goal
@@ -11,7 +12,7 @@ returns-then-not-is_rule c = no_rule _ _ c.is_rule.ensures c.if-not-is_rule.true
 pub returns-then-not-named : goal.returns-then-not-named
 returns-then-not-named c =
     above_n _ _ c.is_rule.ensures c.if-not-is_rule.false
-    (failed c.named.ensures c.if-not-named.true)
+    (failed c.named.ensures (not_from_false _ c.if-not-named.true))
 
 pub overflow_add-ands : goal.overflow_add-ands
 overflow_add-ands c =
@@ -23,16 +24,16 @@ pub returns-then-ands-ors-gt31 : goal.returns-then-ands-ors-gt31
 returns-then-ands-ors-gt31 c =
     many_rows _ _ c.is_rule.ensures c.if-not-is_rule.false
     c.occurrences-ands.ensures c.occurrences-ors.ensures
-    (passed c.named.ensures c.if-not-named.false) c.if-ands-ors-gt31.true
+    (passed c.named.ensures (not_from_true _ c.if-not-named.false)) c.if-ands-ors-gt31.true
 
 pub returns-then-ands-gt11 : goal.returns-then-ands-gt11
 returns-then-ands-gt11 c =
     many_columns _ _ c.is_rule.ensures c.if-not-is_rule.false
     c.occurrences-ands.ensures c.occurrences-ors.ensures
-    (passed c.named.ensures c.if-not-named.false) c.if-ands-ors-gt31.false c.if-ands-gt11.true
+    (passed c.named.ensures (not_from_true _ c.if-not-named.false)) c.if-ands-ors-gt31.false c.if-ands-gt11.true
 
 pub returns : goal.returns
 returns c =
     nothing _ _ c.is_rule.ensures c.if-not-is_rule.false
     c.occurrences-ands.ensures c.occurrences-ors.ensures
-    (passed c.named.ensures c.if-not-named.false) c.if-ands-ors-gt31.false c.if-ands-gt11.false
+    (passed c.named.ensures (not_from_true _ c.if-not-named.false)) c.if-ands-ors-gt31.false c.if-ands-gt11.false
