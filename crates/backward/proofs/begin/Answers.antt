@@ -1,7 +1,6 @@
 -- `backward::begin` meets its contract: the loop fills r with 0, and then q is stored at place k.
 -- Assumes nothing.
 use mathlib.Core.Path.{refl, ◌∙◌}
-use Prim.Native.Nat.{◌-◌}
 use native.Mathlib.Omega.{arith}
 use lib.Seq.{get_or-set_same, get_or-set_other}
 use lib.ListN.{length-set}

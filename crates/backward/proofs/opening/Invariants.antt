@@ -1,6 +1,5 @@
 -- `backward::opening` meets its contract: with each turn one line more is solved (`Openings` of proofs/Turns.antt).
 -- Assumes nothing.
-use Prim.Native.Nat.{◌-◌}
 use lib.ListN.{length}
 use Rattle.backward.proofs.Turns.{Openings}
 use Rattle.backward.proofs.opening.Given as goal

@@ -1,7 +1,7 @@
 -- `lines::col_dot` meets its contract. The loop keeps `Summed`: the sum modulo p, and room for each term; one reduction ends it.
 -- Assumes nothing.
 use mathlib.Core.Path.{◌∙◌}
-use Prim.Native.Nat.{◌-◌, ◌+◌}
+use Prim.Native.Nat.{◌+◌}
 use native.Mathlib.Omega.{arith}
 use borrow.Author.Rules.{rules}
 use Rattle.lines.proofs.Laws.{sum_start, sum_turn, sum_end}

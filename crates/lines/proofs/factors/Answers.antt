@@ -1,7 +1,7 @@
 -- `lines::factors` meets its contract: what it ensures of s lines, the loop keeps of the first j.
 -- Assumes nothing.
 use mathlib.Core.Path.{subst}
-use Prim.Native.Nat.{ℕ, ◌-◌}
+use Prim.Native.Nat.{ℕ}
 use native.Mathlib.Omega.{arith}
 use borrow.Author.Rules.{rules}
 use Rattle.lines.specs.Line.{Factored}

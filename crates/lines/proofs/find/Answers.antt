@@ -1,6 +1,5 @@
 -- `lines::find` meets its contract: all places that the loop passed are 0.
 -- Assumes nothing.
-use Prim.Native.Nat.{◌-◌}
 use native.Mathlib.Omega.{arith}
 use borrow.Author.Count.{below_more}
 use borrow.Author.Rules.{rules}

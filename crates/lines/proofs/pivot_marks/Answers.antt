@@ -2,7 +2,7 @@
 -- Assumes nothing.
 use mathlib.Core.Logic.{⊎_elim}
 use mathlib.Core.Path.{◌≡◌, refl, subst}
-use Prim.Native.Nat.{ℕ, ◌-◌}
+use Prim.Native.Nat.{ℕ}
 use native.Mathlib.Omega.{arith}
 use lib.ListN.{get_or, length-set, replicate, get_or-replicate, get_or-eq_default}
 use Rattle.algebra.proofs.Cases.{lt_or_ge}
@@ -14,8 +14,7 @@ none : (i : ℕ) → get_or {A = ℕ} (replicate 12 0) i 0 ≡ 0
 none i = ⊎_elim (λ l. get_or-replicate 12 i 0 0 l) (λ l. get_or-eq_default (replicate 12 0) 0 l) (lt_or_ge i 12)
 
 pub loop-j-init : goal.loop-j-init
-loop-j-init c =
-    (
+loop-j-init c = (
   omega arith,
   refl,
   marks_start c.args.t.now (replicate 12 0) none,

@@ -1,7 +1,6 @@
 -- `lines::rest` meets its contract: the loop changes the first e places in their order, those that are pivots to 0.
 -- Assumes nothing.
 use mathlib.Core.Path.{◌≡◌}
-use Prim.Native.Nat.{◌-◌}
 use native.Mathlib.Nat.{mod-lt}
 use native.Mathlib.Omega.{arith}
 use lib.ListN.{length}

@@ -1,7 +1,7 @@
 -- `lines::row_dot` meets its contract. The loop keeps `Summed`: the sum modulo p, and room for each term; one reduction ends it.
 -- Assumes nothing.
 use mathlib.Core.Path.{ap, ◌∙◌}
-use Prim.Native.Nat.{ℕ, ◌-◌, ◌%◌}
+use Prim.Native.Nat.{ℕ, ◌%◌}
 use native.Mathlib.Omega.{arith}
 use Rattle.lines.proofs.Laws.{sum_start, sum_turn, sum_end}
 use Rattle.lines.proofs.row_dot.Goals as goal

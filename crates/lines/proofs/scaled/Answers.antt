@@ -1,7 +1,7 @@
 -- `lines::scaled` meets its contract: the loop changes the first e places in their order.
 -- Assumes nothing.
 use mathlib.Core.Path.{◌≡◌}
-use Prim.Native.Nat.{◌-◌, ◌*◌, ◌%◌}
+use Prim.Native.Nat.{◌*◌, ◌%◌}
 use native.Mathlib.Nat.{mod-lt}
 use native.Mathlib.Omega.{arith}
 use lib.ListN.{length, get_or}

@@ -1,7 +1,6 @@
 -- `scheme::all_below` meets its contract. The loop's invariant: what is left of the list gives the answer for all of it.
 -- Assumes nothing.
 use mathlib.Core.Path.{refl}
-use Prim.Native.Nat.{◌-◌}
 use native.Mathlib.Omega.{arith}
 use Rattle.scheme.proofs.Tests.{each_end, below_stop, below_go}
 use Rattle.scheme.proofs.all_below.Goals as goal

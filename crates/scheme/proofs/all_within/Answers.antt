@@ -1,7 +1,6 @@
 -- `scheme::all_within` meets its contract. The loop's invariant: what is left of the list gives the answer for all of it.
 -- Assumes nothing.
 use mathlib.Core.Path.{refl}
-use Prim.Native.Nat.{◌-◌}
 use native.Mathlib.Omega.{arith}
 use borrow.Author.Tests.{lt-leb, le-leb}
 use Rattle.scheme.proofs.Tests.{each_stop, each_go, each_end}

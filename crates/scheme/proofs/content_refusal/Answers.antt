@@ -19,6 +19,6 @@ pub returns : goal.returns
 unfolding content_refusal_lem
 returns c =
     simp (
-  passed c.all_within.ensures (not_from_true c.all_within.result c.if-not-all_within.false),
-  passed c.all_below.ensures (not_from_true c.all_below.result c.if-not-all_below.false),
-)
+      passed c.all_within.ensures (not_from_true c.all_within.result c.if-not-all_within.false),
+      passed c.all_below.ensures (not_from_true c.all_below.result c.if-not-all_below.false),
+    )
