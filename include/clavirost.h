@@ -1,6 +1,6 @@
 /* Clavirost: the release code of a medicine safe, dealt as shares through a matrix modulo a prime.
 
-   Link with libclavirost.a (`rt staticlib clavirost` writes target/staticlib/libclavirost.a; x86-64 Linux). Every call is proved to answer as
+   Link with libclavirost.a (`rt lib` in crates/clavirost writes out/libclavirost.a there; x86-64 Linux). Every call is proved to answer as
    said here for all numbers and lists: there is nothing that a caller has to promise, but that each pointer points to as many places as the
    length after it says (any pointer that is not NULL will do for a list of length 0), and that what is lent for a result overlaps nothing else
    that is lent: no list, and no other number.

@@ -1,7 +1,7 @@
 //! Clavirost for Rust: the declarations of libclavirost.a and a safe wrapper. Copy this file into your crate, and let your build link the
-//! library (`rt staticlib clavirost` writes target/staticlib/libclavirost.a, for x86-64 Linux):
+//! library (`rt lib` in crates/clavirost writes out/libclavirost.a there, for x86-64 Linux):
 //!
-//!     println!("cargo:rustc-link-search=native=PATH/target/staticlib");
+//!     println!("cargo:rustc-link-search=native=PATH/crates/clavirost/out");
 //!     println!("cargo:rustc-link-lib=static=clavirost");
 //!
 //! What each call means, how long its lists are and what it refuses is said in include/clavirost.h. Every call is proved to answer as said there

@@ -4,155 +4,209 @@
 #![tactic(auto)]
 
 use scheme::{Made, Outcome, Shape};
+use std::io;
+use std::io::Write;
 
-fn write_shape(s: Shape) {
-    show::text(b" OK");
-    show::number(s.n);
-    show::size(s.d);
-    show::size(s.e);
-    show::number(s.p);
+fn write_shape(to: &mut impl Write, s: Shape) -> io::Result<()> {
+    show::text(to, b" OK")?;
+    show::number(to, s.n)?;
+    show::size(to, s.d)?;
+    show::size(to, s.e)?;
+    show::number(to, s.p)
 }
 
-fn write_made(a: Made) {
+fn write_made(to: &mut impl Write, a: Made) -> io::Result<()> {
     match a {
-        Made::Scheme(s) => write_shape(s),
-        Made::Refused(k) => show::refused(k),
+        Made::Scheme(s) => write_shape(to, s),
+        Made::Refused(k) => show::refused(to, k),
     }
 }
 
-fn show_rule(xs: &[u32], text: &[u8], labels: &mut [u32], entries: &mut [u32]) {
+fn show_rule(
+    to: &mut impl Write,
+    xs: &[u32],
+    text: &[u8],
+    labels: &mut [u32],
+    entries: &mut [u32],
+) -> io::Result<()> {
     show::mark(labels);
     show::mark(entries);
-    show::text(b"rule");
-    write_made(rule::build(
-        requests::number_at(xs, 0),
-        requests::number_at(xs, 1),
-        text,
-        labels,
-        entries,
-    ));
-    show::list(labels);
-    show::list(entries);
+    show::text(to, b"rule")?;
+    write_made(
+        to,
+        rule::build(
+            requests::number_at(xs, 0),
+            requests::number_at(xs, 1),
+            text,
+            labels,
+            entries,
+        ),
+    )?;
+    show::list(to, labels)?;
+    show::list(to, entries)
 }
 
-fn lend_rule(xs: &[u32], text: &[u8], labels: usize, entries: usize) {
+fn lend_rule(
+    to: &mut impl Write,
+    xs: &[u32],
+    text: &[u8],
+    labels: usize,
+    entries: usize,
+) -> io::Result<()> {
     let mut space = requests::results();
     let mut more = requests::results();
     let n = requests::places(xs, labels);
     let m = requests::places(xs, entries);
-    show_rule(xs, text, &mut space[0..n], &mut more[0..m]);
+    show_rule(to, xs, text, &mut space[0..n], &mut more[0..m])
 }
 
 // The text's numbers as bytes, in a place for each.
-fn bytes_rule(xs: &[u32], text: &[u32], space: &mut [u8], labels: usize, entries: usize) -> bool {
+fn bytes_rule(
+    to: &mut impl Write,
+    xs: &[u32],
+    text: &[u32],
+    space: &mut [u8],
+    labels: usize,
+    entries: usize,
+) -> io::Result<bool> {
     if !requests::to_bytes(text, space) {
-        return false;
+        return Ok(false);
     }
-    lend_rule(xs, space, labels, entries);
-    true
+    lend_rule(to, xs, space, labels, entries)?;
+    Ok(true)
 }
 
-fn text_rule(xs: &[u32], text: &[u32], labels: usize, entries: usize) -> bool {
+fn text_rule(
+    to: &mut impl Write,
+    xs: &[u32],
+    text: &[u32],
+    labels: usize,
+    entries: usize,
+) -> io::Result<bool> {
     let mut space = requests::byte_places();
     let n = text.len();
     if n > requests::MOST {
-        return false;
+        return Ok(false);
     }
-    bytes_rule(xs, text, &mut space[0..n], labels, entries)
+    bytes_rule(to, xs, text, &mut space[0..n], labels, entries)
 }
 
-pub fn rule_line(xs: &[u32]) -> bool {
+pub fn rule_line(to: &mut impl Write, xs: &[u32]) -> io::Result<bool> {
     let labels = requests::past_list(xs, 2);
     let entries = requests::past_places(xs, labels);
     if requests::past_places(xs, entries) != xs.len() {
-        return false;
+        return Ok(false);
     }
-    text_rule(xs, requests::list_at(xs, 2), labels, entries)
+    text_rule(to, xs, requests::list_at(xs, 2), labels, entries)
 }
 
-fn write_file(file: &[u8]) {
-    show::text(b" OK");
-    show::filled_bytes(file);
+fn write_file(to: &mut impl Write, file: &[u8]) -> io::Result<()> {
+    show::text(to, b" OK")?;
+    show::filled_bytes(to, file)
 }
 
-fn write_no_file(k: u32, file: &[u8]) {
-    show::refused(k);
-    show::left_bytes(file);
+fn write_no_file(to: &mut impl Write, k: u32, file: &[u8]) -> io::Result<()> {
+    show::refused(to, k)?;
+    show::left_bytes(to, file)
 }
 
-fn write_written(a: Outcome, file: &[u8]) {
+fn write_written(to: &mut impl Write, a: Outcome, file: &[u8]) -> io::Result<()> {
     match a {
-        Outcome::Done => write_file(file),
-        Outcome::Refused(k) => write_no_file(k, file),
+        Outcome::Done => write_file(to, file),
+        Outcome::Refused(k) => write_no_file(to, k, file),
     }
 }
 
-fn show_write(xs: &[u32], file: &mut [u8]) {
-    show::text(b"write");
+fn show_write(to: &mut impl Write, xs: &[u32], file: &mut [u8]) -> io::Result<()> {
+    show::text(to, b"write")?;
     let told = writing::write(
         requests::shape(xs),
         requests::labels(xs),
         requests::entries(xs),
         file,
     );
-    write_written(told, file);
+    write_written(to, told, file)
 }
 
-fn lend_write(xs: &[u32], file: usize) {
+fn lend_write(to: &mut impl Write, xs: &[u32], file: usize) -> io::Result<()> {
     let mut space = show::marked_bytes();
     let n = requests::places(xs, file);
-    show_write(xs, &mut space[0..n]);
+    show_write(to, xs, &mut space[0..n])
 }
 
-pub fn write_line(xs: &[u32]) -> bool {
+pub fn write_line(to: &mut impl Write, xs: &[u32]) -> io::Result<bool> {
     let file = requests::past_scheme(xs);
     if requests::past_places(xs, file) != xs.len() {
-        return false;
+        return Ok(false);
     }
-    lend_write(xs, file);
-    true
+    lend_write(to, xs, file)?;
+    Ok(true)
 }
 
-fn show_read(file: &[u8], labels: &mut [u32], entries: &mut [u32]) {
+fn show_read(
+    to: &mut impl Write,
+    file: &[u8],
+    labels: &mut [u32],
+    entries: &mut [u32],
+) -> io::Result<()> {
     show::mark(labels);
     show::mark(entries);
-    show::text(b"read");
-    write_made(reading::read(file, labels, entries));
-    show::list(labels);
-    show::list(entries);
+    show::text(to, b"read")?;
+    write_made(to, reading::read(file, labels, entries))?;
+    show::list(to, labels)?;
+    show::list(to, entries)
 }
 
-fn lend_read(xs: &[u32], file: &[u8], labels: usize, entries: usize) {
+fn lend_read(
+    to: &mut impl Write,
+    xs: &[u32],
+    file: &[u8],
+    labels: usize,
+    entries: usize,
+) -> io::Result<()> {
     let mut space = requests::results();
     let mut more = requests::results();
     let n = requests::places(xs, labels);
     let m = requests::places(xs, entries);
-    show_read(file, &mut space[0..n], &mut more[0..m]);
+    show_read(to, file, &mut space[0..n], &mut more[0..m])
 }
 
 // The file's numbers as bytes, in a place for each.
-fn bytes_read(xs: &[u32], file: &[u32], space: &mut [u8], labels: usize, entries: usize) -> bool {
+fn bytes_read(
+    to: &mut impl Write,
+    xs: &[u32],
+    file: &[u32],
+    space: &mut [u8],
+    labels: usize,
+    entries: usize,
+) -> io::Result<bool> {
     if !requests::to_bytes(file, space) {
-        return false;
+        return Ok(false);
     }
-    lend_read(xs, space, labels, entries);
-    true
+    lend_read(to, xs, space, labels, entries)?;
+    Ok(true)
 }
 
-fn file_read(xs: &[u32], file: &[u32], labels: usize, entries: usize) -> bool {
+fn file_read(
+    to: &mut impl Write,
+    xs: &[u32],
+    file: &[u32],
+    labels: usize,
+    entries: usize,
+) -> io::Result<bool> {
     let mut space = requests::byte_places();
     let n = file.len();
     if n > requests::MOST {
-        return false;
+        return Ok(false);
     }
-    bytes_read(xs, file, &mut space[0..n], labels, entries)
+    bytes_read(to, xs, file, &mut space[0..n], labels, entries)
 }
 
-pub fn read_line(xs: &[u32]) -> bool {
+pub fn read_line(to: &mut impl Write, xs: &[u32]) -> io::Result<bool> {
     let labels = requests::past_list(xs, 0);
     let entries = requests::past_places(xs, labels);
     if requests::past_places(xs, entries) != xs.len() {
-        return false;
+        return Ok(false);
     }
-    file_read(xs, requests::list_at(xs, 0), labels, entries)
+    file_read(to, xs, requests::list_at(xs, 0), labels, entries)
 }

@@ -7,6 +7,8 @@
 use join::Joined;
 use panel::{Panel, Told};
 use scheme::Outcome;
+use std::io;
+use std::io::Write;
 
 // The places of a panel.
 const LABELS: usize = 32;
@@ -83,40 +85,40 @@ fn holds(xs: &[u32], cards: usize) -> bool {
 }
 
 // The cards that are in, and the stored shares of the scheme's rows.
-fn write_state(a: Panel) {
+fn write_state(to: &mut impl Write, a: Panel) -> io::Result<()> {
     let stored = a.stored;
-    show::text(b" OK");
-    show::number(a.cards);
-    show::list(requests::first(&stored, a.d));
+    show::text(to, b" OK")?;
+    show::number(to, a.cards)?;
+    show::list(to, requests::first(&stored, a.d))
 }
 
-fn write_outcome(said: Outcome, a: Panel) {
+fn write_outcome(to: &mut impl Write, said: Outcome, a: Panel) -> io::Result<()> {
     match said {
-        Outcome::Done => write_state(a),
-        Outcome::Refused(k) => show::refused(k),
+        Outcome::Done => write_state(to, a),
+        Outcome::Refused(k) => show::refused(to, k),
     }
 }
 
-fn write_told(t: Told) {
+fn write_told(to: &mut impl Write, t: Told) -> io::Result<()> {
     let said = t.said;
     let after = t.panel;
-    write_outcome(said, after);
+    write_outcome(to, said, after)
 }
 
-fn write_code(x: u32) {
-    show::text(b" OK");
-    show::number(x);
+fn write_code(to: &mut impl Write, x: u32) -> io::Result<()> {
+    show::text(to, b" OK")?;
+    show::number(to, x)
 }
 
-fn write_joined(a: Joined) {
+fn write_joined(to: &mut impl Write, a: Joined) -> io::Result<()> {
     match a {
-        Joined::Code(x) => write_code(x),
-        Joined::Refused(k) => show::refused(k),
+        Joined::Code(x) => write_code(to, x),
+        Joined::Refused(k) => show::refused(to, k),
     }
 }
 
-fn show_new(xs: &[u32]) {
-    show::text(b"panel_new");
+fn show_new(to: &mut impl Write, xs: &[u32]) -> io::Result<()> {
+    show::text(to, b"panel_new")?;
     let a = panel::fresh(
         requests::shape(xs),
         requests::labels(xs),
@@ -124,77 +126,78 @@ fn show_new(xs: &[u32]) {
     );
     let said = a.said;
     let made = a.panel;
-    write_outcome(said, made);
+    write_outcome(to, said, made)
 }
 
-pub fn new_line(xs: &[u32]) -> bool {
+pub fn new_line(to: &mut impl Write, xs: &[u32]) -> io::Result<bool> {
     if requests::past_scheme(xs) != xs.len() {
-        return false;
+        return Ok(false);
     }
     if !holds_scheme(xs) {
-        return false;
+        return Ok(false);
     }
-    show_new(xs);
-    true
+    show_new(to, xs)?;
+    Ok(true)
 }
 
-fn show_put(a: Panel, who: u32, shares: &[u32]) {
-    show::text(b"panel_put");
-    write_told(a.put(who, shares));
+fn show_put(to: &mut impl Write, a: Panel, who: u32, shares: &[u32]) -> io::Result<()> {
+    show::text(to, b"panel_put")?;
+    write_told(to, a.put(who, shares))
 }
 
-pub fn put_line(xs: &[u32]) -> bool {
+pub fn put_line(to: &mut impl Write, xs: &[u32]) -> io::Result<bool> {
     let cards = requests::past_scheme(xs);
     let who = requests::past_list(xs, requests::past_number(xs, cards));
     let shares = requests::past_number(xs, who);
     if requests::past_list(xs, shares) != xs.len() {
-        return false;
+        return Ok(false);
     }
     if !holds(xs, cards) {
-        return false;
+        return Ok(false);
     }
     show_put(
+        to,
         state(xs, cards),
         requests::number_at(xs, who),
         requests::list_at(xs, shares),
-    );
-    true
+    )?;
+    Ok(true)
 }
 
-fn show_take(a: Panel, who: u32) {
-    show::text(b"panel_take");
-    write_told(a.take(who));
+fn show_take(to: &mut impl Write, a: Panel, who: u32) -> io::Result<()> {
+    show::text(to, b"panel_take")?;
+    write_told(to, a.take(who))
 }
 
-pub fn take_line(xs: &[u32]) -> bool {
+pub fn take_line(to: &mut impl Write, xs: &[u32]) -> io::Result<bool> {
     let cards = requests::past_scheme(xs);
     let who = requests::past_list(xs, requests::past_number(xs, cards));
     if requests::past_number(xs, who) != xs.len() {
-        return false;
+        return Ok(false);
     }
     if !holds(xs, cards) {
-        return false;
+        return Ok(false);
     }
-    show_take(state(xs, cards), requests::number_at(xs, who));
-    true
+    show_take(to, state(xs, cards), requests::number_at(xs, who))?;
+    Ok(true)
 }
 
-fn show_code(a: Panel) {
-    show::text(b"panel_code");
+fn show_code(to: &mut impl Write, a: Panel) -> io::Result<()> {
+    show::text(to, b"panel_code")?;
     let c = a.code();
     let said = c.said;
-    write_joined(said);
+    write_joined(to, said)
 }
 
-pub fn code_line(xs: &[u32]) -> bool {
+pub fn code_line(to: &mut impl Write, xs: &[u32]) -> io::Result<bool> {
     let cards = requests::past_scheme(xs);
     let stored = requests::past_number(xs, cards);
     if requests::past_list(xs, stored) != xs.len() {
-        return false;
+        return Ok(false);
     }
     if !holds(xs, cards) {
-        return false;
+        return Ok(false);
     }
-    show_code(state(xs, cards));
-    true
+    show_code(to, state(xs, cards))?;
+    Ok(true)
 }

@@ -7,6 +7,8 @@
 ghost use Rattle.std.specs.Prelude.{◌≤◌};
 
 use scheme::Shape;
+use std::io;
+use std::io::{BufWriter, Write};
 
 const LABELS: [u32; 3] = [1, 2, 3];
 
@@ -61,7 +63,7 @@ fn one_if(b: bool) -> u32
     0
 }
 
-fn main() {
+fn main(rt: HostRuntime) -> io::Result<()> {
     let mut products: u32 = 0;
     let mut both: u32 = 0;
     let mut m: u32 = 0;
@@ -72,11 +74,13 @@ fn main() {
         both += yes * one_if(any_two_of_three(&entries));
         m += 1;
     }
-    show::text(b"matrices");
-    show::number(MATRICES);
-    show::text(b"\nproduct yes");
-    show::number(products);
-    show::text(b"\nalso threshold 1 yes");
-    show::number(both);
-    show::text(b"\n");
+    let mut to = BufWriter::new(rt.alloc(), io::writer(&rt))?;
+    show::text(&mut to, b"matrices")?;
+    show::number(&mut to, MATRICES)?;
+    show::text(&mut to, b"\nproduct yes")?;
+    show::number(&mut to, products)?;
+    show::text(&mut to, b"\nalso threshold 1 yes")?;
+    show::number(&mut to, both)?;
+    show::text(&mut to, b"\n")?;
+    to.flush()
 }

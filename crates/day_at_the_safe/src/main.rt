@@ -7,113 +7,117 @@
 use join::Joined;
 use panel::{Panel, Told};
 use scheme::Shape;
+use std::io;
+use std::io::{BufWriter, Write};
 
 // Document 01's S; the shares that are put in are those of example A, of the secret 13.
 const LABELS: [u32; 5] = [1, 2, 3, 4, 5];
 
 const ENTRIES: [u32; 15] = [1, 1, 1, 1, 2, 4, 1, 3, 9, 1, 4, 16, 1, 5, 8];
 
-fn opened(x: u32) {
-    show::text(b" OK");
-    show::number(x);
+fn opened(to: &mut impl Write, x: u32) -> io::Result<()> {
+    show::text(to, b" OK")?;
+    show::number(to, x)
 }
 
-fn joined(a: Joined) {
+fn joined(to: &mut impl Write, a: Joined) -> io::Result<()> {
     match a {
-        Joined::Code(x) => opened(x),
-        Joined::Refused(k) => show::refused(k),
+        Joined::Code(x) => opened(to, x),
+        Joined::Refused(k) => show::refused(to, k),
     }
 }
 
 // The cards that are in, as a set, and all 32 places for shares, of which S uses five.
-fn state(a: Panel) -> Panel {
+fn state(to: &mut impl Write, a: Panel) -> io::Result<Panel> {
     let stored = a.stored;
-    show::number(a.cards);
-    show::list(&stored);
-    show::text(b"\n");
-    a
+    show::number(to, a.cards)?;
+    show::list(to, &stored)?;
+    show::text(to, b"\n")?;
+    Ok(a)
 }
 
-fn told(t: Told) -> Panel {
+fn told(to: &mut impl Write, t: Told) -> io::Result<Panel> {
     let said = t.said;
     let panel = t.panel;
-    show::outcome(said);
-    state(panel)
+    show::outcome(to, said)?;
+    state(to, panel)
 }
 
-fn put(a: Panel, who: u32, share: u32) -> Panel {
+fn put(to: &mut impl Write, a: Panel, who: u32, share: u32) -> io::Result<Panel> {
     let shares = [share];
-    show::text(b"put");
-    show::number(who);
-    told(a.put(who, &shares))
+    show::text(to, b"put")?;
+    show::number(to, who)?;
+    told(to, a.put(who, &shares))
 }
 
-fn take(a: Panel, who: u32) -> Panel {
-    show::text(b"take");
-    show::number(who);
-    told(a.take(who))
+fn take(to: &mut impl Write, a: Panel, who: u32) -> io::Result<Panel> {
+    show::text(to, b"take")?;
+    show::number(to, who)?;
+    told(to, a.take(who))
 }
 
-fn code(a: Panel) -> Panel {
-    show::text(b"code");
+fn code(to: &mut impl Write, a: Panel) -> io::Result<Panel> {
+    show::text(to, b"code")?;
     let c = a.code();
     let said = c.said;
     let panel = c.panel;
-    joined(said);
-    show::text(b"\n");
-    panel
+    joined(to, said)?;
+    show::text(to, b"\n")?;
+    Ok(panel)
 }
 
-fn fresh() -> Panel {
+fn fresh(to: &mut impl Write) -> io::Result<Panel> {
     let s = Shape {
         p: 17,
         n: 5,
         d: 5,
         e: 3,
     };
-    show::text(b"fresh");
+    show::text(to, b"fresh")?;
     let a = panel::fresh(s, &LABELS, &ENTRIES);
     let said = a.said;
     let panel = a.panel;
-    show::outcome(said);
-    state(panel)
+    show::outcome(to, said)?;
+    state(to, panel)
 }
 
 // Nobody; one card; the same card twice; a card that is not in; a participant outside 1 to 5; a share that is none.
-fn morning(a: Panel) -> Panel {
-    let b = code(a);
-    let c = put(b, 1, 8);
-    let d = put(c, 1, 9);
-    let e = take(d, 4);
-    let f = put(e, 6, 1);
-    let g = put(f, 2, 17);
-    code(g)
+fn morning(to: &mut impl Write, a: Panel) -> io::Result<Panel> {
+    let b = code(to, a)?;
+    let c = put(to, b, 1, 8)?;
+    let d = put(to, c, 1, 9)?;
+    let e = take(to, d, 4)?;
+    let f = put(to, e, 6, 1)?;
+    let g = put(to, f, 2, 17)?;
+    code(to, g)
 }
 
 // Two cards are too few; a wrong card shows itself when four are in; it goes, and the three open.
-fn noon(a: Panel) -> Panel {
-    let b = put(a, 3, 10);
-    let c = code(b);
-    let d = put(c, 5, 12);
-    let e = put(d, 2, 7);
-    let f = code(e);
-    let g = take(f, 5);
-    code(g)
+fn noon(to: &mut impl Write, a: Panel) -> io::Result<Panel> {
+    let b = put(to, a, 3, 10)?;
+    let c = code(to, b)?;
+    let d = put(to, c, 5, 12)?;
+    let e = put(to, d, 2, 7)?;
+    let f = code(to, e)?;
+    let g = take(to, f, 5)?;
+    code(to, g)
 }
 
 // The card comes back with its right share, and four open; others leave, and what is left is too little.
-fn evening(a: Panel) -> Panel {
-    let b = put(a, 5, 11);
-    let c = code(b);
-    let d = take(c, 1);
-    let e = code(d);
-    let f = take(e, 2);
-    code(f)
+fn evening(to: &mut impl Write, a: Panel) -> io::Result<Panel> {
+    let b = put(to, a, 5, 11)?;
+    let c = code(to, b)?;
+    let d = take(to, c, 1)?;
+    let e = code(to, d)?;
+    let f = take(to, e, 2)?;
+    code(to, f)
 }
 
-fn main() {
-    let a = fresh();
-    let b = morning(a);
-    let c = noon(b);
-    evening(c);
+fn main(rt: HostRuntime) -> io::Result<()> {
+    let mut to = BufWriter::new(rt.alloc(), io::writer(&rt))?;
+    let a = fresh(&mut to)?;
+    let b = morning(&mut to, a)?;
+    let c = noon(&mut to, b)?;
+    evening(&mut to, c)?;
+    to.flush()
 }

@@ -7,17 +7,18 @@
 ghost use Rattle.std.specs.Prelude.{◌≡◌, ◌≤◌, ◌*◌, length, take};
 ghost use Rattle.scheme.specs.Refusal.{check_refusal};
 
-use libc::{STDIN_FILENO, STDOUT_FILENO};
 use requests::Read;
 use scheme::{Made, Outcome, Shape};
 use sheets::Written;
+use std::io;
+use std::io::Write;
 
 const NEWLINE: u8 = 10;
 
 // The first line, without its end.
 fn first_line(input: &[u8]) -> &[u8] {
-    let end = bytes::scan::find(input, 0, input.len(), NEWLINE);
-    &input[0..end]
+    let end = input.iter().position(|b| *b == NEWLINE);
+    &input[0..end.unwrap_or(input.len())]
 }
 
 // A word as a number; 0 where it is none.
@@ -30,22 +31,23 @@ fn number(word: &[u8]) -> u32 {
     }
 }
 
-fn say_refused(k: u32) {
+fn say_refused(to: &mut impl Write, k: u32) -> io::Result<()> {
     let mut line = [0u8; 256];
     let w = sheets::refused(k, &mut line);
-    print(&line, w);
+    print(to, &line, w)
 }
 
 // Prints the bytes that were written.
-fn print(out: &[u8], w: Written) {
+fn print(to: &mut impl Write, out: &[u8], w: Written) -> io::Result<()> {
     match w {
         Written::Refused(_) => {}
         Written::Bytes(n) => {
             if n <= out.len() {
-                io::write_all(STDOUT_FILENO, &out[0..n]);
+                return to.write_all(&out[0..n]);
             }
         }
     }
+    Ok(())
 }
 
 // How many bytes the file of d rows has: a heading block and a block for each 20 rows.
@@ -58,41 +60,60 @@ fn file_size(d: usize) -> usize
     1536
 }
 
-fn print_file(s: Shape, labels: &[u32], entries: &[u32], file: &mut [u8]) {
+fn print_file(
+    to: &mut impl Write,
+    s: Shape,
+    labels: &[u32],
+    entries: &[u32],
+    file: &mut [u8],
+) -> io::Result<()> {
     let told = writing::write(s, labels, entries, &mut *file);
     match told {
-        Outcome::Done => {
-            io::write_all(STDOUT_FILENO, file);
-        }
-        Outcome::Refused(k) => say_refused(k),
+        Outcome::Done => to.write_all(file),
+        Outcome::Refused(k) => say_refused(to, k),
     }
 }
 
 // Prints the file of a scheme that was built: its labels and entries are the first of the places that it was built into.
-fn print_built(s: Shape, labels: &[u32], entries: &[u32], file: &mut [u8])
+fn print_built(
+    to: &mut impl Write,
+    s: Shape,
+    labels: &[u32],
+    entries: &[u32],
+    file: &mut [u8],
+) -> io::Result<()>
     requires labels_len { (length labels.now ≡ 32) × (length entries.now ≡ 384) × (length file.old ≡ 1536) }
     requires entries_value { check_refusal s (take s.d labels.now) (take (s.d * s.e) entries.now) ≡ 0 }
 {
     let d = s.d;
     let cells = d * s.e;
     let size = file_size(d);
-    print_file(s, &labels[0..d], &entries[0..cells], &mut file[0..size]);
+    print_file(to, s, &labels[0..d], &entries[0..cells], &mut file[0..size])
 }
 
-fn make(p: u32, n: u32, text: &[u8], labels: &mut [u32], entries: &mut [u32], file: &mut [u8])
+fn make(
+    to: &mut impl Write,
+    p: u32,
+    n: u32,
+    text: &[u8],
+    labels: &mut [u32],
+    entries: &mut [u32],
+    file: &mut [u8],
+) -> io::Result<()>
     requires { (length labels.old ≡ 32) × (length entries.old ≡ 384) × (length file.old ≡ 1536) }
 {
     let made = rule::build(p, n, text, &mut *labels, &mut *entries);
     match made {
-        Made::Refused(k) => say_refused(k),
-        Made::Scheme(s) => print_built(s, labels, entries, file),
+        Made::Refused(k) => say_refused(to, k),
+        Made::Scheme(s) => print_built(to, s, labels, entries, file),
     }
 }
 
-fn main() {
-    let mut input = io::buffer();
-    let got = io::read_full(STDIN_FILENO, &mut input);
-    let line = first_line(&input[..got]);
+// What is printed is one write, so that it needs no buffer.
+fn main(rt: HostRuntime) -> io::Result<()> {
+    let mut space = [0u8; 4096];
+    let got = input::read_full(&mut rt.reader(), &mut space)?;
+    let line = first_line(&space[..got]);
     let rest = requests::text(line);
     let p = number(requests::name(line));
     let n = number(requests::name(rest));
@@ -100,11 +121,12 @@ fn main() {
     let mut entries = [0u32; 384];
     let mut file = [0u8; 1536];
     make(
+        &mut io::writer(&rt),
         p,
         n,
         requests::text(rest),
         &mut labels,
         &mut entries,
         &mut file,
-    );
+    )
 }

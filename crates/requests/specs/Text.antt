@@ -1,9 +1,14 @@
--- The numbers of a text: decimal numbers below 2^32 with one space between.
+-- The place of a byte in a text. The numbers of a text: decimal numbers below 2^32 with one space between.
 -- Assumes nothing.
 use Rattle.std.specs.Prelude.{◌≡◌, Bool, true, false, ◌&&◌, cond, List, [], ◌∷◌, ◌++◌, ℕ, ◌+◌, ◌*◌, ◌-◌, ◌≤◌, eqb, leb, ltb, length, take}
+use Rattle.std.specs.List.{position_or_len}
 use Rattle.requests.specs.declared.Read.{Read}
 use Rattle.requests.specs.declared.Read.TheVariants.{Count, Bad}
 use Rattle.requests.specs.declared.Reading.{Reading}
+
+-- The place of the first such byte of a text; the text's length where there is none.
+abbrev pub index_of : ℕ → List ℕ → ℕ
+index_of byte text = position_or_len (λ x. eqb x byte) text
 
 abbrev pub is_digit : ℕ → Bool
 is_digit byte = leb 48 byte && leb byte 57

@@ -5,8 +5,7 @@
 #![tactic(auto)]
 
 ghost use Rattle.std.specs.Prelude.{◌≡◌, Bool, true, false, ◌&&◌, List, [], ◌∷◌, ℕ, ◌+◌, ◌*◌, ◌≤◌, ◌<◌, eqb, length, take, drop, get_or};
-ghost use Rattle.bytes.specs.Bytes.{index_of};
-ghost use Rattle.requests.specs.Text.{ReadSays, Stored, ReadsOn, Reads};
+ghost use Rattle.requests.specs.Text.{index_of, ReadSays, Stored, ReadsOn, Reads};
 ghost use Rattle.scheme.specs.Tests.{each_below};
 ghost use Rattle.scheme.specs.Outcome.{over};
 ghost use Rattle.requests.specs.Parts.{past_number_lem, past_list_lem, list_at_lem};
@@ -16,11 +15,18 @@ use scheme::Shape;
 
 const SPACE: u8 = 32;
 
+// The place of the first space; the line's length where there is none.
+fn find(line: &[u8]) -> usize
+    ensures { result ≡ index_of 32 line.now }
+{
+    line.iter().position(|b| *b == SPACE).unwrap_or(line.len())
+}
+
 // The bytes before the first space.
 pub fn name(line: &[u8]) -> &[u8]
     ensures { result.now ≡ take (index_of 32 line.now) line.now }
 {
-    let end = bytes::scan::find(line, 0, line.len(), SPACE);
+    let end = find(line);
     &line[0..end]
 }
 
@@ -28,7 +34,7 @@ pub fn name(line: &[u8]) -> &[u8]
 pub fn text(line: &[u8]) -> &[u8]
     ensures { result.now ≡ drop (index_of 32 line.now + 1) line.now }
 {
-    let space = bytes::scan::find(line, 0, line.len(), SPACE);
+    let space = find(line);
     let end = line.len();
     if end <= space {
         return &line[end..end];

@@ -6,15 +6,16 @@
 
 #![tactic(auto)]
 
-use libc::STDIN_FILENO;
+use std::io;
 
 // One byte more than the longest file has: a longer input is of wrong length whatever follows.
 fn places() -> [u8; 1537] {
     [0u8; 1537]
 }
 
-fn main() {
+// A part of the sheet is one write, so that it needs no buffer.
+fn main(rt: HostRuntime) -> io::Result<()> {
     let mut space = places();
-    let n = io::read_full(STDIN_FILENO, &mut space);
-    sheet_out::print(&space[..n]);
+    let n = input::read_full(&mut rt.reader(), &mut space)?;
+    sheet_out::print(&mut io::writer(&rt), &space[..n])
 }

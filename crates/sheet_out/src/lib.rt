@@ -1,9 +1,10 @@
-// The sheet of a file on standard output.
+// The sheet of a file, written to a writer.
 
 #![tactic(auto)]
 
-use libc::STDOUT_FILENO;
 use sheets::Written;
+use std::io;
+use std::io::Write;
 
 // 4,096 lines a part, as many as are asked in one run: a sheet has 65,537 lines at most, so that there are no more than 18 parts, the last
 // of them empty.
@@ -18,35 +19,42 @@ pub fn part_size(file: &[u8], k: u32, out: &mut [u8; 1048576]) -> usize {
     }
 }
 
-// Writes the first n bytes. False where nobody takes them.
-fn write_first(out: &[u8], n: usize) -> bool {
+// Writes the first n bytes. False where there are not so many.
+fn write_first(to: &mut impl Write, out: &[u8], n: usize) -> io::Result<bool> {
     if out.len() < n {
-        return false;
+        return Ok(false);
     }
-    io::write_all(STDOUT_FILENO, &out[0..n])
+    to.write_all(&out[0..n])?;
+    Ok(true)
 }
 
-// Prints part k. False where there is none, or nobody takes it.
-fn print_part(file: &[u8], k: u32, out: &mut [u8; 1048576]) -> bool {
+// Prints part k. False where there is none.
+fn print_part(
+    to: &mut impl Write,
+    file: &[u8],
+    k: u32,
+    out: &mut [u8; 1048576],
+) -> io::Result<bool> {
     let n = part_size(file, k, &mut *out);
     if n == 0 {
-        return false;
+        return Ok(false);
     }
-    write_first(out, n)
+    write_first(to, out, n)
 }
 
-// Prints the sheet of a file, a part at a write.
-pub fn print(file: &[u8]) {
+// Prints the sheet of a file, a part at a write. An error where nobody takes a part, and no more is printed then.
+pub fn print(to: &mut impl Write, file: &[u8]) -> io::Result<()> {
     let mut space = [0u8; 1048576];
-    print_by(file, &mut space);
+    print_by(to, file, &mut space)
 }
 
-fn print_by(file: &[u8], out: &mut [u8; 1048576]) {
+fn print_by(to: &mut impl Write, file: &[u8], out: &mut [u8; 1048576]) -> io::Result<()> {
     let mut k = 0;
     while k < PARTS {
-        if !print_part(file, k, &mut *out) {
-            return;
+        if !print_part(to, file, k, &mut *out)? {
+            return Ok(());
         }
         k += 1;
     }
+    Ok(())
 }

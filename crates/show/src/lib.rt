@@ -3,10 +3,11 @@
 
 #![tactic(auto)]
 
-ghost use Rattle.std.specs.Prelude.{◌≡◌, length};
+ghost use Rattle.std.specs.Prelude.{◌≡◌, ◌≤◌, length};
 
-use libc::STDOUT_FILENO;
 use scheme::Outcome;
+use std::io;
+use std::io::Write;
 
 // What each place of a result list holds before a call, so that a line shows which places the call left as they were.
 const MARK: u32 = 61681;
@@ -29,18 +30,17 @@ pub fn marked_bytes() -> [u8; 2048]
     [BYTE_MARK; 2048]
 }
 
-pub fn text(bytes: &[u8]) {
-    io::write_all(STDOUT_FILENO, bytes);
+pub fn text(to: &mut impl Write, bytes: &[u8]) -> io::Result<()> {
+    to.write_all(bytes)
 }
 
-pub fn number(x: u32) {
-    size(x as usize);
+pub fn number(to: &mut impl Write, x: u32) -> io::Result<()> {
+    size(to, x as usize)
 }
 
 // A length as a number.
-pub fn size(x: usize) {
-    text(b" ");
-    io::print_decimal(STDOUT_FILENO, x as u64);
+pub fn size(to: &mut impl Write, x: usize) -> io::Result<()> {
+    write!(to, " {x}")
 }
 
 // A byte put at place `at` of a text; the place after it. A full text stays as it is.
@@ -62,66 +62,82 @@ fn put_all(out: &mut [u8], at: usize, bytes: &[u8]) -> usize {
     end
 }
 
-fn put_number(out: &mut [u8], at: usize, x: u32) -> usize {
-    let mut digits = [0u8; 20];
-    let n = io::decimal(x as u64, &mut digits);
-    let start = put(out, at, 32);
-    put_all(out, start, &digits[..n])
-}
-
-fn write_first(out: &[u8], n: usize) {
-    if n <= out.len() {
-        text(&out[0..n]);
+// The digits of a number in the last of ten places; the place of the first.
+fn decimal(x: u32, digits: &mut [u8; 10]) -> usize
+    ensures { result ≤ 10 }
+{
+    let mut rest = x;
+    for i in (0..10).rev() {
+        digits[i] = 48 + (rest % 10) as u8;
+        rest /= 10;
+        if rest == 0 {
+            return i;
+        }
     }
-}
-
-// Where the next number goes: there are 11 places for it, or the text is written and its places are free.
-fn free(out: &[u8], at: usize) -> usize {
-    if at < 4000 {
-        return at;
-    }
-    write_first(out, at);
     0
 }
 
-// A list that was lent, after the call. Its numbers are gathered, so that a write has many of them.
-pub fn list(xs: &[u32]) {
-    text(b" |");
-    if xs.len() == 0 {
-        text(b" ");
-    }
-    numbers(xs);
+fn put_number(out: &mut [u8], at: usize, x: u32) -> usize {
+    let mut digits = [0u8; 10];
+    let first = decimal(x, &mut digits);
+    let start = put(out, at, 32);
+    put_all(out, start, &digits[first..])
 }
 
-fn numbers(xs: &[u32]) {
-    let mut space = io::buffer();
+fn write_first(to: &mut impl Write, out: &[u8], n: usize) -> io::Result<()> {
+    if n <= out.len() {
+        return text(to, &out[0..n]);
+    }
+    Ok(())
+}
+
+// Where the next number goes: there are 11 places for it, or the text is written and its places are free.
+fn free(to: &mut impl Write, out: &[u8], at: usize) -> io::Result<usize> {
+    if at < 4000 {
+        return Ok(at);
+    }
+    write_first(to, out, at)?;
+    Ok(0)
+}
+
+// A list that was lent, after the call. Its numbers are gathered, so that a write has many of them.
+pub fn list(to: &mut impl Write, xs: &[u32]) -> io::Result<()> {
+    text(to, b" |")?;
+    if xs.len() == 0 {
+        text(to, b" ")?;
+    }
+    numbers(to, xs)
+}
+
+fn numbers(to: &mut impl Write, xs: &[u32]) -> io::Result<()> {
+    let mut space = [0u8; 4096];
     let out: &mut [u8] = &mut space;
     let mut at = 0;
     let mut i = 0;
     while i < xs.len() {
-        let start = free(out, at);
+        let start = free(to, out, at)?;
         at = put_number(out, start, xs[i]);
         i += 1;
     }
-    write_first(out, at);
+    write_first(to, out, at)
 }
 
 // A list of bytes that a call has filled: each byte as it is.
-pub fn filled_bytes(xs: &[u8]) {
-    bytes(xs, BYTE_MARK as u32);
+pub fn filled_bytes(to: &mut impl Write, xs: &[u8]) -> io::Result<()> {
+    bytes(to, xs, BYTE_MARK as u32)
 }
 
 // A list of bytes that a call had to leave as it was: a byte that is still the mark is written as the mark of the other lists.
-pub fn left_bytes(xs: &[u8]) {
-    bytes(xs, MARK);
+pub fn left_bytes(to: &mut impl Write, xs: &[u8]) -> io::Result<()> {
+    bytes(to, xs, MARK)
 }
 
-fn bytes(xs: &[u8], mark: u32) {
-    text(b" |");
+fn bytes(to: &mut impl Write, xs: &[u8], mark: u32) -> io::Result<()> {
+    text(to, b" |")?;
     if xs.len() == 0 {
-        text(b" ");
+        text(to, b" ")?;
     }
-    byte_numbers(xs, mark);
+    byte_numbers(to, xs, mark)
 }
 
 // The number that stands for a byte.
@@ -132,27 +148,27 @@ fn byte_number(x: u8, mark: u32) -> u32 {
     x as u32
 }
 
-fn byte_numbers(xs: &[u8], mark: u32) {
-    let mut space = io::buffer();
+fn byte_numbers(to: &mut impl Write, xs: &[u8], mark: u32) -> io::Result<()> {
+    let mut space = [0u8; 4096];
     let out: &mut [u8] = &mut space;
     let mut at = 0;
     let mut i = 0;
     while i < xs.len() {
-        let start = free(out, at);
+        let start = free(to, out, at)?;
         at = put_number(out, start, byte_number(xs[i], mark));
         i += 1;
     }
-    write_first(out, at);
+    write_first(to, out, at)
 }
 
-pub fn refused(k: u32) {
-    text(b" REFUSED");
-    number(k);
+pub fn refused(to: &mut impl Write, k: u32) -> io::Result<()> {
+    text(to, b" REFUSED")?;
+    number(to, k)
 }
 
-pub fn outcome(a: Outcome) {
+pub fn outcome(to: &mut impl Write, a: Outcome) -> io::Result<()> {
     match a {
-        Outcome::Done => text(b" OK"),
-        Outcome::Refused(k) => refused(k),
+        Outcome::Done => text(to, b" OK"),
+        Outcome::Refused(k) => refused(to, k),
     }
 }

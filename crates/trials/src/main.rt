@@ -36,73 +36,74 @@
 #![tactic(auto)]
 
 use requests::Read;
+use std::io;
+use std::io::{BufWriter, Write};
 
 const NEWLINE: u8 = 10;
 
 // The table of names.
-fn request(name: &[u8], xs: &[u32]) -> bool {
-    if check::same(name, b"check") {
-        return answers::check_line(xs);
+fn request(to: &mut impl Write, name: &[u8], xs: &[u32]) -> io::Result<bool> {
+    if name == b"check".as_slice() {
+        return answers::check_line(to, xs);
     }
-    if check::same(name, b"deal") {
-        return answers::deal_line(xs);
+    if name == b"deal".as_slice() {
+        return answers::deal_line(to, xs);
     }
-    if check::same(name, b"ask") {
-        return answers::ask_line(xs);
+    if name == b"ask".as_slice() {
+        return answers::ask_line(to, xs);
     }
-    if check::same(name, b"join") {
-        return answers::join_line(xs);
+    if name == b"join".as_slice() {
+        return answers::join_line(to, xs);
     }
-    if check::same(name, b"product") {
-        return answers::product_line(xs);
+    if name == b"product".as_slice() {
+        return answers::product_line(to, xs);
     }
-    if check::same(name, b"threshold") {
-        return answers::threshold_line(xs);
+    if name == b"threshold".as_slice() {
+        return answers::threshold_line(to, xs);
     }
-    if check::same(name, b"rule") {
-        return answers_made::rule_line(xs);
+    if name == b"rule".as_slice() {
+        return answers_made::rule_line(to, xs);
     }
-    if check::same(name, b"write") {
-        return answers_made::write_line(xs);
+    if name == b"write".as_slice() {
+        return answers_made::write_line(to, xs);
     }
-    if check::same(name, b"read") {
-        return answers_made::read_line(xs);
+    if name == b"read".as_slice() {
+        return answers_made::read_line(to, xs);
     }
-    if check::same(name, b"panel_new") {
-        return answers_panel::new_line(xs);
+    if name == b"panel_new".as_slice() {
+        return answers_panel::new_line(to, xs);
     }
-    if check::same(name, b"panel_put") {
-        return answers_panel::put_line(xs);
+    if name == b"panel_put".as_slice() {
+        return answers_panel::put_line(to, xs);
     }
-    if check::same(name, b"panel_take") {
-        return answers_panel::take_line(xs);
+    if name == b"panel_take".as_slice() {
+        return answers_panel::take_line(to, xs);
     }
-    if check::same(name, b"panel_code") {
-        return answers_panel::code_line(xs);
+    if name == b"panel_code".as_slice() {
+        return answers_panel::code_line(to, xs);
     }
-    false
+    Ok(false)
 }
 
 // The answer to a line, without its end.
-fn answer(line: &[u8], numbers: &mut [u32]) -> bool {
+fn answer(to: &mut impl Write, line: &[u8], numbers: &mut [u32]) -> io::Result<bool> {
     let read = requests::numbers(requests::text(line), numbers);
     let Read::Count(n) = read else {
-        return false;
+        return Ok(false);
     };
-    request(requests::name(line), requests::first(numbers, n))
+    request(to, requests::name(line), requests::first(numbers, n))
 }
 
 // A line of `size` bytes has ended; more bytes than there are places were not kept.
-fn end_line(line: &[u8], size: usize, numbers: &mut [u32]) {
+fn end_line(to: &mut impl Write, line: &[u8], size: usize, numbers: &mut [u32]) -> io::Result<()> {
     if line.len() < size {
-        show::text(b"? no request\n");
-        return;
+        return show::text(to, b"? no request\n");
     }
-    let told = answer(&line[0..size], numbers);
+    let told = answer(to, &line[0..size], numbers)?;
     if !told {
-        show::text(b"? no request");
+        show::text(to, b"? no request")?;
     }
-    show::text(b"\n");
+    show::text(to, b"\n")
 }
 
 // One more byte of a line; one past the last place stands for any number of bytes too many.
@@ -115,74 +116,103 @@ fn keep(line: &mut [u8], size: usize, byte: u8) -> usize {
 }
 
 // One more byte of the input: the size of the line that is being gathered.
-fn take_in(line: &mut [u8], size: usize, byte: u8, numbers: &mut [u32]) -> usize {
+fn take_in(
+    to: &mut impl Write,
+    line: &mut [u8],
+    size: usize,
+    byte: u8,
+    numbers: &mut [u32],
+) -> io::Result<usize> {
     if byte == NEWLINE {
-        end_line(line, size, numbers);
-        return 0;
+        end_line(to, line, size, numbers)?;
+        return Ok(0);
     }
-    keep(line, size, byte)
+    Ok(keep(line, size, byte))
 }
 
 // One more part of the input.
-fn take_in_part(part: &[u8], line: &mut [u8], size: usize, numbers: &mut [u32]) -> usize {
+fn take_in_part(
+    to: &mut impl Write,
+    part: &[u8],
+    line: &mut [u8],
+    size: usize,
+    numbers: &mut [u32],
+) -> io::Result<usize> {
     let mut gathered = size;
     let mut i = 0;
     while i < part.len() {
-        gathered = take_in(line, gathered, part[i], numbers);
+        gathered = take_in(to, line, gathered, part[i], numbers)?;
         i += 1;
     }
-    gathered
+    Ok(gathered)
 }
 
-// Reads a part and takes it in. At the input's end the size is what it was, and `more` is false.
+// Reads a part and takes it in; its answers are out before more is read. At the input's end the size is what it was, and `more` is false.
 #[derive(Drop)]
 struct Gathered {
     size: usize,
     more: bool,
 }
 
-fn read_part(line: &mut [u8], size: usize, numbers: &mut [u32]) -> Gathered {
-    let mut part = io::large_buffer();
-    let got = libc::read(0, &mut part);
-    let n = io::count(got, &part);
+fn read_part(
+    from: &mut impl io::Read,
+    to: &mut impl Write,
+    line: &mut [u8],
+    size: usize,
+    numbers: &mut [u32],
+) -> io::Result<Gathered> {
+    let mut part = [0u8; 65536];
+    let n = from.read(&mut part)?;
     if n == 0 {
-        return Gathered {
+        return Ok(Gathered {
             size: size,
             more: false,
-        };
+        });
     }
-    Gathered {
-        size: take_in_part(&part[..n], line, size, numbers),
+    let gathered = take_in_part(to, &part[..n], line, size, numbers)?;
+    to.flush()?;
+    Ok(Gathered {
+        size: gathered,
         more: true,
-    }
+    })
 }
 
 // Takes in all of the input; the size of a last line that has no end. A proved loop has to end, and nothing says that the input does: it
-// counts its turns down from a number that no run uses up.
-fn take_in_all(line: &mut [u8], numbers: &mut [u32]) -> usize {
+// has more turns than any run uses up.
+fn take_in_all(
+    from: &mut impl io::Read,
+    to: &mut impl Write,
+    line: &mut [u8],
+    numbers: &mut [u32],
+) -> io::Result<usize> {
     let mut size = 0;
-    let mut turns = u64::MAX;
-    while turns > 0 {
-        let gathered = read_part(line, size, numbers);
+    for _ in 0..u64::MAX {
+        let gathered = read_part(from, to, line, size, numbers)?;
         let more = gathered.more;
         size = gathered.size;
         if !more {
-            return size;
+            return Ok(size);
         }
-        turns -= 1;
     }
-    size
+    Ok(size)
 }
 
-fn run(line: &mut [u8], numbers: &mut [u32]) {
-    let size = take_in_all(line, numbers);
+fn run(
+    from: &mut impl io::Read,
+    to: &mut impl Write,
+    line: &mut [u8],
+    numbers: &mut [u32],
+) -> io::Result<()> {
+    let size = take_in_all(from, to, line, numbers)?;
     if size > 0 {
-        end_line(line, size, numbers);
+        end_line(to, line, size, numbers)?;
     }
+    to.flush()
 }
 
-fn main() {
+fn main(rt: HostRuntime) -> io::Result<()> {
     let mut line = [0u8; 131072];
     let mut numbers = [0u32; 16384];
-    run(&mut line, &mut numbers);
+    let mut to = BufWriter::new(rt.alloc(), io::writer(&rt))?;
+    run(&mut rt.reader(), &mut to, &mut line, &mut numbers)
 }

@@ -7,7 +7,8 @@
 ghost use Rattle.std.specs.Prelude.{◌≡◌, ℕ, ◌<◌, ◌≤◌, ◌*◌, length, get_or};
 ghost use Rattle.residue.specs.Prime.{Prime};
 
-use libc::STDOUT_FILENO;
+use std::io;
+use std::io::{BufWriter, Write};
 
 // What both result lists hold before a question.
 const MARK: u32 = 61681;
@@ -151,66 +152,87 @@ fn marked(xs: &[u32]) -> bool {
     true
 }
 
-fn print(x: u32) {
-    io::print_decimal(STDOUT_FILENO, x as u64);
-    io::write_all(STDOUT_FILENO, b" ");
+fn print(to: &mut impl Write, x: u32) -> io::Result<()> {
+    write!(to, "{x} ")
 }
 
-fn print_next(x: u32) {
-    io::write_all(STDOUT_FILENO, b" ");
-    io::print_decimal(STDOUT_FILENO, x as u64);
+fn print_next(to: &mut impl Write, x: u32) -> io::Result<()> {
+    write!(to, " {x}")
 }
 
-fn print_size(x: usize) {
-    io::print_decimal(STDOUT_FILENO, x as u64);
-    io::write_all(STDOUT_FILENO, b" ");
+fn print_size(to: &mut impl Write, x: usize) -> io::Result<()> {
+    write!(to, "{x} ")
 }
 
-fn print_all(xs: &[u32]) {
+fn print_all(to: &mut impl Write, xs: &[u32]) -> io::Result<()> {
     let mut i = 0;
     while i < xs.len() {
-        print_next(xs[i]);
+        print_next(to, xs[i])?;
         i += 1;
     }
+    Ok(())
 }
 
 // The end of a line, from the verdict on.
-fn show(verdict: &[u8], rank: usize, told: &[u32], other: &[u32]) {
-    io::write_all(STDOUT_FILENO, verdict);
-    io::print_decimal(STDOUT_FILENO, rank as u64);
-    print_all(told);
+fn show(
+    to: &mut impl Write,
+    verdict: &[u8],
+    rank: usize,
+    told: &[u32],
+    other: &[u32],
+) -> io::Result<()> {
+    to.write_all(verdict)?;
+    write!(to, "{rank}")?;
+    print_all(to, told)?;
     if !marked(other) {
-        io::write_all(STDOUT_FILENO, b" CHANGED");
+        to.write_all(b" CHANGED")?;
     }
-    io::write_all(STDOUT_FILENO, b"\n");
+    to.write_all(b"\n")
 }
 
-fn show_either(a: rows::Answer, r: &[u32], z: &[u32]) {
+fn show_either(to: &mut impl Write, a: rows::Answer, r: &[u32], z: &[u32]) -> io::Result<()> {
     if a.opens {
-        show(b"OPEN ", a.rank, r, z);
-        return;
+        return show(to, b"OPEN ", a.rank, r, z);
     }
-    show(b"CLOSED ", a.rank, z, r);
+    show(to, b"CLOSED ", a.rank, z, r)
 }
 
 // One question, asked of marked lists, and its line.
-fn question(p: u32, d: usize, e: usize, chosen: u32, m: &[u32], r: &mut [u32], z: &mut [u32])
+fn question(
+    to: &mut impl Write,
+    p: u32,
+    d: usize,
+    e: usize,
+    chosen: u32,
+    m: &[u32],
+    r: &mut [u32],
+    z: &mut [u32],
+) -> io::Result<()>
     requires prime { Prime p }
     requires d_bound { (d ≤ 32) × (1 ≤ e) × (e ≤ 12) × (length m.now ≡ d * e) × (length r.old ≡ d) × (length z.old ≡ e) }
     requires by_index { (i : ℕ) → get_or m.now i 0 < p }
 {
     mark(r);
     mark(z);
-    print(p);
-    print_size(d);
-    print_size(e);
-    print(chosen);
+    print(to, p)?;
+    print_size(to, d)?;
+    print_size(to, e)?;
+    print(to, chosen)?;
     let a = rows::ask(p, d, e, chosen, m, r, z);
-    show_either(a, r, z);
+    show_either(to, a, r, z)
 }
 
 // The questions of one matrix.
-fn questions(p: u32, d: usize, e: usize, seed: u32, m: &[u32], r: &mut [u32], z: &mut [u32])
+fn questions(
+    to: &mut impl Write,
+    p: u32,
+    d: usize,
+    e: usize,
+    seed: u32,
+    m: &[u32],
+    r: &mut [u32],
+    z: &mut [u32],
+) -> io::Result<()>
     requires prime { Prime p }
     requires d_bound { (d ≤ 32) × (1 ≤ e) × (e ≤ 12) × (length m.now ≡ d * e) × (length r.old ≡ d) × (length z.old ≡ e) }
     requires by_index { (i : ℕ) → get_or m.now i 0 < p }
@@ -220,63 +242,84 @@ fn questions(p: u32, d: usize, e: usize, seed: u32, m: &[u32], r: &mut [u32], z:
     let mut n = 0;
     while n < last {
         x = step(x);
-        question(p, d, e, choice(d, n, x), m, r, z);
+        question(to, p, d, e, choice(d, n, x), m, r, z)?;
         n += 1;
     }
+    Ok(())
 }
 
-fn matrix(p: u32, d: usize, e: usize, seed: u32, m: &mut [u32], r: &mut [u32], z: &mut [u32])
+fn matrix(
+    to: &mut impl Write,
+    p: u32,
+    d: usize,
+    e: usize,
+    seed: u32,
+    m: &mut [u32],
+    r: &mut [u32],
+    z: &mut [u32],
+) -> io::Result<()>
     requires prime { Prime p }
     requires d_bound { (d ≤ 32) × (1 ≤ e) × (e ≤ 12) × (length m.old ≡ d * e) × (length r.old ≡ d) × (length z.old ≡ e) }
 {
     fill(p, e, seed, m);
-    questions(p, d, e, seed, m, r, z);
+    questions(to, p, d, e, seed, m, r, z)
 }
 
 // The lists cut to their lengths, where the numbers are allowed.
-fn sized(p: u32, d: usize, e: usize, seed: u32, m: &mut [u32], r: &mut [u32], z: &mut [u32]) {
+fn sized(
+    to: &mut impl Write,
+    p: u32,
+    d: usize,
+    e: usize,
+    seed: u32,
+    m: &mut [u32],
+    r: &mut [u32],
+    z: &mut [u32],
+) -> io::Result<()> {
     if !residue::is_modulus(p) {
-        return;
+        return Ok(());
     }
     if d > 32 {
-        return;
+        return Ok(());
     }
     if e < 1 {
-        return;
+        return Ok(());
     }
     if e > 12 {
-        return;
+        return Ok(());
     }
     let w = d * e;
     if w > m.len() {
-        return;
+        return Ok(());
     }
     if d > r.len() {
-        return;
+        return Ok(());
     }
     if e > z.len() {
-        return;
+        return Ok(());
     }
-    matrix(p, d, e, seed, &mut m[0..w], &mut r[0..d], &mut z[0..e]);
+    matrix(to, p, d, e, seed, &mut m[0..w], &mut r[0..d], &mut z[0..e])
 }
 
-fn case(p: u32, d: usize, e: usize, seed: u32) {
+fn case(to: &mut impl Write, p: u32, d: usize, e: usize, seed: u32) -> io::Result<()> {
     let mut m = [0u32; 384];
     let mut r = [0u32; 32];
     let mut z = [0u32; 12];
-    sized(p, d, e, seed, &mut m, &mut r, &mut z);
+    sized(to, p, d, e, seed, &mut m, &mut r, &mut z)
 }
 
 // The first is document 01's S.
-fn main() {
-    case(17, 5, 3, 0);
-    case(2, 6, 4, 1);
-    case(3, 8, 5, 2);
-    case(5, 4, 6, 3);
-    case(31, 3, 1, 4);
-    case(2, 16, 12, 5);
-    case(257, 12, 12, 6);
-    case(8191, 16, 8, 7);
-    case(65521, 16, 8, 8);
-    case(65521, 32, 12, 9);
+fn main(rt: HostRuntime) -> io::Result<()> {
+    let mut to = BufWriter::new(rt.alloc(), io::writer(&rt))?;
+    case(&mut to, 17, 5, 3, 0)?;
+    case(&mut to, 2, 6, 4, 1)?;
+    case(&mut to, 3, 8, 5, 2)?;
+    case(&mut to, 5, 4, 6, 3)?;
+    case(&mut to, 31, 3, 1, 4)?;
+    case(&mut to, 2, 16, 12, 5)?;
+    case(&mut to, 257, 12, 12, 6)?;
+    case(&mut to, 8191, 16, 8, 7)?;
+    case(&mut to, 65521, 16, 8, 8)?;
+    case(&mut to, 65521, 32, 12, 9)?;
+    to.flush()
 }

@@ -5,9 +5,10 @@
 
 #![tactic(auto)]
 
-ghost use Rattle.std.specs.Prelude.{◌<◌, ◌≤◌, ◌+◌, length};
+ghost use Rattle.std.specs.Prelude.{◌<◌, ◌≤◌, ◌+◌, length, IfOk};
 
-use libc::{STDIN_FILENO, STDOUT_FILENO};
+use std::io;
+use std::io::Write;
 
 const MODULUS: u32 = 65521;
 
@@ -26,9 +27,8 @@ fn check_of(before: u32, by: u32, text: &[u8]) -> u32 {
     check
 }
 
-fn say(check: u32) {
-    io::print_decimal(STDOUT_FILENO, check as u64);
-    io::write_all(STDOUT_FILENO, b"\n");
+fn say(to: &mut impl Write, check: u32) -> io::Result<()> {
+    writeln!(to, "{check}")
 }
 
 // The same of the first n bytes.
@@ -40,30 +40,29 @@ fn check_first(before: u32, by: u32, out: &[u8], n: usize) -> u32 {
 }
 
 // Prints the checks of a file's sheet, once its first empty part was seen.
-fn print_checks(file: &[u8], out: &mut [u8; 1048576]) {
+fn print_checks(to: &mut impl Write, file: &[u8], out: &mut [u8; 1048576]) -> io::Result<()> {
     let mut first = 0;
     let mut second = 0;
     let mut k = 0;
     while k < sheet_out::PARTS {
         let n = sheet_out::part_size(file, k, &mut *out);
         if n == 0 {
-            say(first);
-            say(second);
-            return;
+            say(to, first)?;
+            return say(to, second);
         }
         first = check_first(first, 31, out, n);
         second = check_first(second, 257, out, n);
         k += 1;
     }
+    Ok(())
 }
 
-fn answer(full: bool, file: &[u8]) {
+fn answer(to: &mut impl Write, full: bool, file: &[u8]) -> io::Result<()> {
     if full {
-        sheet_out::print(file);
-        return;
+        return sheet_out::print(to, file);
     }
     let mut space = [0u8; 1048576];
-    print_checks(file, &mut space);
+    print_checks(to, file, &mut space)
 }
 
 // The number of four bytes, the lowest first.
@@ -72,33 +71,35 @@ fn number(a: u8, b: u8, c: u8, d: u8) -> usize {
 }
 
 // Answers the input whose five bytes stand at `at`; the place after it.
-fn answer_at(all: &[u8], at: usize) -> usize
+fn answer_at(to: &mut impl Write, all: &[u8], at: usize) -> io::Result<usize>
     requires { at < length all.now }
-    ensures { (at < result) × (result ≤ length all.now) }
+    ensures { IfOk result (λ end. (at < end) × (end ≤ length all.now)) }
 {
     let left = all.len() - at;
     if left < 5 {
-        return all.len();
+        return Ok(all.len());
     }
     let size = number(all[at + 1], all[at + 2], all[at + 3], all[at + 4]);
     if left - 5 < size {
-        return all.len();
+        return Ok(all.len());
     }
     let start = at + 5;
     let end = start + size;
-    answer(all[at] == 0, &all[start..end]);
-    end
+    answer(to, all[at] == 0, &all[start..end])?;
+    Ok(end)
 }
 
-fn answer_all(all: &[u8]) {
+fn answer_all(to: &mut impl Write, all: &[u8]) -> io::Result<()> {
     let mut at = 0;
     while at < all.len() {
-        at = answer_at(all, at);
+        at = answer_at(to, all, at)?;
     }
+    Ok(())
 }
 
-fn main() {
+// A part of a sheet is one write, and so is a check: they need no buffer.
+fn main(rt: HostRuntime) -> io::Result<()> {
     let mut space = [0u8; 262144];
-    let n = io::read_full(STDIN_FILENO, &mut space);
-    answer_all(&space[..n]);
+    let n = input::read_full(&mut rt.reader(), &mut space)?;
+    answer_all(&mut io::writer(&rt), &space[..n])
 }

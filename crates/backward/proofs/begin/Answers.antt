@@ -33,5 +33,5 @@ returns c =
       len = simp length-set n;
       here = get_or-set_same l.r c.args.k c.args.q 0 (omega arith);
       zero = λ i ne. get_or-set_other l.r c.args.k i c.args.q 0 ne
-            ∙ z i;
+          ∙ z i;
     }

@@ -4,8 +4,7 @@ use Rattle.backward.proofs.Turns.{weight_is}
 use Rattle.backward.proofs.weight.Goals as goal
 
 pub returns : goal.returns
-returns c =
-    (
+returns c = (
   weight_is _ _ _ _ _ _ _ _ c.times.ensures.0 c.col_dot-h.ensures.0
       c.times-b.ensures.0,
   c.times.ensures.1,

@@ -1,6 +1,5 @@
--- `count_products::main` is safe and ends: each count is at most the number of matrices so far.
--- Assumes nothing.
-use Prim.Native.Nat.{◌≤◌, ◌-◌}
+-- `count_products::main`: each count is at most the number of matrices so far.
+use Rattle.std.proofs.Common.{◌-◌, ◌≤◌}
 use Rattle.count_products.proofs.main.Given as goal
 
 abbrev pub invariant-loop-m : goal.invariant-loop-m

