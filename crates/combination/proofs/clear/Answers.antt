@@ -1,6 +1,5 @@
 -- `combination::clear` meets its contract: the loop fills x with 0. Assumes nothing.
 use mathlib.Core.Path.{refl, ◌∙◌}
-use Prim.Native.Nat.{◌-◌}
 use native.Mathlib.Omega.{arith}
 use Rattle.lists.proofs.Fill.{fill_start, fill_turn, filled}
 use Rattle.combination.proofs.clear.Goals as goal

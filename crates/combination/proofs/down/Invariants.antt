@@ -1,6 +1,5 @@
 -- `combination::down` meets its contract. The loop's invariant is the contract for the vectors from k on (`down_turn` of linear's
 -- proofs/Dual.antt is its turn); k falls to 0. Assumes nothing.
-use Prim.Native.Nat.{◌-◌}
 use Rattle.combination.specs.Steps.{Downed}
 use Rattle.combination.proofs.down.Given as goal
 

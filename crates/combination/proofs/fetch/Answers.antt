@@ -1,6 +1,5 @@
 -- `combination::fetch` meets its contract: the loop fills x with the places of vector k. Assumes nothing.
 use mathlib.Core.Path.{refl, ◌∙◌}
-use Prim.Native.Nat.{◌-◌}
 use native.Mathlib.Omega.{arith}
 use Rattle.lists.proofs.Fill.{fill_start, fill_turn, filled}
 use Rattle.combination.proofs.fetch.Goals as goal

@@ -1,5 +1,4 @@
 -- `combination::first_nonzero` meets its contract. The loop's invariant: the places before i are 0 modulo p. Assumes nothing.
-use Prim.Native.Nat.{◌-◌}
 use borrow.Author.Count.{below_more}
 use native.Mathlib.Omega.{arith}
 use Rattle.combination.proofs.first_nonzero.Goals as goal

@@ -1,5 +1,4 @@
 -- `combination::make_duals` meets its contract. The loop's invariant: the first k duals are made. Assumes nothing.
-use Prim.Native.Nat.{◌-◌}
 use native.Mathlib.Omega.{arith}
 use Rattle.combination.proofs.Steps.{made_start, made_turn, made_end}
 use Rattle.lists.proofs.Store.{row_fits}

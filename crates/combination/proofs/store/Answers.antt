@@ -1,6 +1,5 @@
 -- `combination::store` meets its contract: the loop fills the places of vector k with x. Assumes nothing.
 use mathlib.Core.Path.{refl}
-use Prim.Native.Nat.{◌-◌}
 use native.Mathlib.Omega.{arith}
 use Rattle.lists.proofs.Fill.{fill_start, fill_turn}
 use Rattle.combination.proofs.store.Goals as goal

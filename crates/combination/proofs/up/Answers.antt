@@ -1,6 +1,5 @@
 -- `combination::up` meets its contract. The loop's invariant is the contract for the first k vectors (`up_turn` of linear's
 -- proofs/Dual.antt is its turn). Assumes nothing.
-use Prim.Native.Nat.{◌-◌}
 use native.Mathlib.Omega.{arith}
 use Rattle.combination.proofs.Steps.{raised_start, raised_turn, raised_end}
 use Rattle.lists.proofs.Store.{row_fits}

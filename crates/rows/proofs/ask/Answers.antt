@@ -31,13 +31,13 @@ next_line-v-requires c =
     record {
       prime = c.requires.prime;
       le_e = (
-          c.requires.d_bound.1,
-          c.requires.d_bound.2,
-          omega arith,
-          omega arith,
-          omega
-              (arith, row_fits l.k c.args.d c.args.e (omega arith), c.requires.d_bound.3),
-        );
+        c.requires.d_bound.1,
+        c.requires.d_bound.2,
+        omega arith,
+        omega arith,
+        omega
+            (arith, row_fits l.k c.args.d c.args.e (omega arith), c.requires.d_bound.3),
+      );
       ratio = c.ratio-inv.ensures.1;
       low = (λ lp i. let h = c.requires.by_index i in omega arith);
       lows = st.lows;
