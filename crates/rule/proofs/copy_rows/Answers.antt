@@ -1,6 +1,5 @@
 -- `rule::copy_rows` meets its contract. The loop's invariant: the first k rows are copied.
 -- Assumes nothing.
-use Prim.Native.Nat.{◌-◌}
 use Rattle.rule.proofs.Copies.{copied_start, copied_turn, copied_all}
 use Rattle.lists.proofs.Store.{row_fits}
 use native.Mathlib.Omega.{arith}
