@@ -5,6 +5,8 @@ pub mod Polynomial
 pub mod Functional
 pub mod Choices
 pub mod Truth
+pub mod Extends
+pub mod Taken
 pub mod Numbers
 pub mod Counting
 pub mod Signs

@@ -4,7 +4,7 @@ use mathlib.Core.Path.{◌≡◌, refl, sym, ap, ap₂, ◌∙◌}
 use mathlib.Core.Bool.{Bool, true, false, true≢false}
 use mathlib.Core.Logic.{⊎_elim, ◌↔◌}
 use mathlib.Core.List.{List, [], ◌∷◌}
-use Prim.Native.Nat.{ℕ, zero, suc, ◌+◌, ◌-◌, ◌%◌, ◌<◌}
+use Prim.Native.Nat.{ℕ, zero, suc, ◌+◌, ◌%◌, ◌<◌}
 use native.Mathlib.Nat.{not-suc-le-zero, le_of_suc-le-suc, mod-eq_of_lt, zero-mod}
 use native.Mathlib.Omega.{arith}
 use lib.ListN.{get_or, length, set, replicate, length-set, length-replicate}
@@ -32,7 +32,9 @@ use Rattle.rules.proofs.Same.{AllRel, Match, rule_same}
 use Rattle.rules.proofs.Polynomial.{nat}
 use Rattle.rules.proofs.Functional.{values, Killed}
 use Rattle.rules.proofs.Choices.{Fit, Above}
-use Rattle.rules.proofs.Truth.{rule_zero, rule_extends}
+use Rattle.rules.proofs.Truth.{rule_zero}
+use Rattle.rules.proofs.Extends.{rule_extends}
+use Rattle.rules.proofs.Taken.{one_off, off_one}
 
 -- The label of row i, and its number in column j.
 abbrev pub row_label : List (ℕ × List ℕ) → ℕ → ℕ
@@ -62,11 +64,7 @@ module _ (p : ℕ) (H : Prime p) where
   nat_res zero = refl
   nat_res (suc n) = ap (λ z. z ⊕ 𝟙) (nat_res n) ∙ res_add p H n 1 ∙ ap (res p H) (omega arith)
 
-  -- 1 taken off modulo p, for p = 2 as well; w added.
-  off_one : (a : ℕ) → res p H ((a + (p - 1)) % p) ≡ res p H a ⊕ neg 𝟙
-  off_one a = res_mod p H (a + (p - 1)) ∙ sym (res_add p H a (p - 1))
-      ∙ ap (λ (n : ℕ). res p H a ⊕ res p H (p - n)) (sym (mod-eq_of_lt H.two))
-
+  -- w added.
   more : (a w : ℕ) → res p H ((a + w) % p) ≡ res p H a ⊕ nat K w
   more a w = res_mod p H (a + w) ∙ sym (res_add p H a w) ∙ ap (λ z. res p H a ⊕ z) (sym (nat_res w))
 
@@ -100,8 +98,8 @@ module _ (p : ℕ) (H : Prime p) where
           ∙ ap₂ ◌⊕◌ dot_zeros (one_l (y k)) ∙ zero_l (y k),
     );
     lesses = λ k x a l u h. (
-      length-set x k ((get_or x k 0 + (p - 1)) % p) ∙ h.0,
-      dot_set e y x k ((get_or x k 0 + (p - 1)) % p) (neg 𝟙) h.0 u (off_one (get_or x k 0))
+      length-set x k (one_off p (get_or x k 0)) ∙ h.0,
+      dot_set e y x k (one_off p (get_or x k 0)) (neg 𝟙) h.0 u (off_one p H (get_or x k 0))
           ∙ ap₂ ◌⊕◌ h.1 (neg_mul R 𝟙 (y k) ∙ ap neg (one_l (y k))),
     );
     pluses = λ k w x a l u h. (

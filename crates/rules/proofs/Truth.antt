@@ -1,32 +1,27 @@
 -- Truth against one functional y, which gives each column a number and so each vector. Where the rule is true and y is 0 at each row of the
--- set, y is 0 at the rule's vector. Whatever number the vector has (0, if the rule is true), y can be given numbers at the rule's columns
--- such that it is 0 at each row of the set.
+-- set, y is 0 at the rule's vector. And a term's own columns: y can be given numbers there, and those of what is inside the term come after.
 -- Assumes nothing.
 use mathlib.Core.Path.{◌≡◌, refl, ap, ap₂, ◌∙◌}
 use mathlib.Core.Bool.{Bool, true, false, ◌&&◌, ◌||◌, cond, false≢true}
 use mathlib.Core.Logic.{◌⊎◌, inl, inr, ⊎_elim}
 use mathlib.Core.List.{[], ◌∷◌}
-use Prim.Native.Nat.{ℕ, zero, suc, ◌+◌, ◌-◌, ◌≤◌}
+use Prim.Native.Nat.{ℕ, zero, suc, ◌+◌, ◌-◌}
 use native.Mathlib.Omega.{arith}
 use lib.ListN.{get_or}
 use Rattle.algebra.specs.Ring.{Field}
 use Rattle.algebra.proofs.Normal.{v, c0, ◌:+◌, ◌:-◌, ring}
 use Rattle.rules.specs.Tree.{Rule, Term, Atom, Rules, term, ◌or◌, atom, ◌and◌, number, group, choice, rule, ◌comma◌}
 use Rattle.rules.specs.Tree.{rule_holds, term_holds, atom_holds}
-use Rattle.rules.specs.Construction.{Vectors, ands, rule_takes, inside_takes, atom_takes, rules_take}
+use Rattle.rules.specs.Construction.{Vectors, ands, rule_takes, inside_takes, atom_takes}
 use Rattle.rules.specs.Construction.{less_all, plus_powers, rule_rows, term_rows, atom_rows, rules_rows}
 use Rattle.rules.proofs.Groups.{RuleGroups, TermGroups, AtomGroups, RulesGroups}
-use Rattle.rules.proofs.Functional.{values, unit_value, Killed, killed_split, killed_join, put, put_same, put_other}
-use Rattle.rules.proofs.Functional.{Outside, Inside, outside_join, before, less_keep, plus_keep, rule_keep, atom_keep}
-use Rattle.rules.proofs.Choices.{Fit, Zero, zero_keep, choice_zero, choice_columns}
+use Rattle.rules.proofs.Functional.{values, Killed, killed_split, put, put_same, put_other}
+use Rattle.rules.proofs.Functional.{Outside, Inside, outside_join, before, less_keep}
+use Rattle.rules.proofs.Choices.{Fit, Zero, choice_zero}
 
 or_true : (a b : Bool) → (a || b) ≡ true → (a ≡ true) ⊎ (b ≡ true)
 or_true true b e = inl refl
 or_true false b e = inr e
-
-or_right : (a b : Bool) → b ≡ true → (a || b) ≡ true
-or_right true b e = refl
-or_right false b e = e
 
 and_both : (a b : Bool) → (a && b) ≡ true → (a ≡ true) × (b ≡ true)
 and_both true b e = (refl, e)
@@ -92,18 +87,18 @@ module _ {A : Type 0} (K : Field A) (member : ℕ → Bool) where
   Extends y c n P = (z : ℕ → A) × Outside K c n y z × P z
 
   -- Each true atom of a term has 0: l is the last atom's number, c the column of the first.
-  abbrev AtomsZero : (ℕ → A) → Term → A → ℕ → Type 0
+  abbrev pub AtomsZero : (ℕ → A) → Term → A → ℕ → Type 0
   AtomsZero y (atom a) l c = atom_holds member a ≡ true → l ≡ 𝟘
   AtomsZero y (a and t) l c = (atom_holds member a ≡ true → y c ≡ 𝟘) × AtomsZero y t l (suc c)
 
-  atoms_keep : (t : Term) (l : A) (c : ℕ) (y z : ℕ → A) → Inside K c (ands t) y z → AtomsZero y t l c → AtomsZero z t l c
+  pub atoms_keep : (t : Term) (l : A) (c : ℕ) (y z : ℕ → A) → Inside K c (ands t) y z → AtomsZero y t l c → AtomsZero z t l c
   unfolding ands
   atoms_keep (atom a) l c y z h o = o
   atoms_keep (a and t) l c y z h o =
       ((λ e. h c (omega arith) (omega arith) ∙ o.0 e), atoms_keep t l (suc c) y z (λ j p q. h j (omega arith) (omega arith)) o.1)
 
   -- Numbers for a term's columns: the term's own number at the first false atom but the last, 0 else.
-  term_columns : (t : Term) (y : ℕ → A) (a : A) (c : ℕ) → (term_holds member t ≡ true → a ≡ 𝟘)
+  pub term_columns : (t : Term) (y : ℕ → A) (a : A) (c : ℕ) → (term_holds member t ≡ true → a ≡ 𝟘)
       → Extends y c (ands t) (λ z. AtomsZero z t (less_all (values K z) c (ands t) a) c)
   unfolding ands less_all term_holds values
   term_columns (atom x) y a c h = (y, (λ k o. refl), h)
@@ -125,7 +120,7 @@ module _ {A : Type 0} (K : Field A) (member : ℕ → Bool) where
       )
 
   -- A term's own columns, and then those of what is inside it.
-  own_columns : (t : Term) (a : A) (c : ℕ) (y u : ℕ → A) → Outside K c (ands t) y u
+  pub own_columns : (t : Term) (a : A) (c : ℕ) (y u : ℕ → A) → Outside K c (ands t) y u
       → Extends u (c + ands t) (inside_takes t)
       (λ z. Killed K member (term_rows (values K z) t (less_all (values K u) c (ands t) a) c (c + ands t)))
       → Extends y c (ands t + inside_takes t) (λ z. Killed K member (rule_rows (values K z) (term t) a c))
@@ -135,72 +130,3 @@ module _ {A : Type 0} (K : Field A) (member : ℕ → Bool) where
     outside_join K c (ands t) (inside_takes t) y u z o p,
     rw (less_keep K c (ands t) a u z (before K c (ands t) (c + ands t) (inside_takes t) u z (omega arith) p)) k,
   )
-
-  mutual
-    unfolding rule_rows rule_holds rule_takes ands
-
-    pub rule_extends : (r : Rule) (a : A) (c : ℕ) (y : ℕ → A) → RuleGroups (Fit K) r → (rule_holds member r ≡ true → a ≡ 𝟘)
-        → Extends y c (rule_takes r) (λ z. Killed K member (rule_rows (values K z) r a c))
-    rule_extends (term t) a c y f h =
-        let u = term_columns t y a c h in
-        own_columns t a c y u.0 u.1
-        (term_extends t (less_all (values K u.0) c (ands t) a) c (c + ands t) u.0 f (omega arith) u.2)
-    rule_extends (t or r) a c y f h =
-        let n = ands t + inside_takes t in
-        let u = term_columns t y a c (λ e. h (ap (λ b. b || rule_holds member r) e)) in
-        let w = own_columns t a c y u.0 u.1
-        (term_extends t (less_all (values K u.0) c (ands t) a) c (c + ands t) u.0 f.0 (omega arith) u.2) in
-        let x = rule_extends r a (c + n) w.0 f.1 (λ e. h (or_right (term_holds member t) (rule_holds member r) e)) in
-        let kept = rule_keep K member (term t) a a c w.0 x.0
-        (before K c n (c + n) (rule_takes r) w.0 x.0 (omega arith) x.1) refl in (
-          x.0,
-          outside_join K c n (rule_takes r) y w.0 x.0 w.1 x.1,
-          killed_join K member (rule_rows (values K x.0) (term t) a c) (rule_rows (values K x.0) r a (c + n)) (kept w.2) x.2,
-        )
-
-    term_extends : (t : Term) (l : A) (k c : ℕ) (y : ℕ → A) → TermGroups (Fit K) t → k + ands t ≤ c → AtomsZero y t l k
-        → Extends y c (inside_takes t) (λ z. Killed K member (term_rows (values K z) t l k c))
-    term_extends (atom a) l k c y f b o = atom_extends a l c y f o
-    term_extends (a and t) l k c y f b o =
-        let n = atom_takes a in
-        let u = atom_extends a (y k) c y f.0 o.0 in
-        let w = term_extends t l (suc k) (c + n) u.0 f.1 (omega arith)
-        (atoms_keep t l (suc k) y u.0 (before K (suc k) (ands t) c n y u.0 (omega arith) u.1) o.1) in
-        let here = unit_value K w.0 k ∙ w.1 k (λ p q. omega arith) ∙ u.1 k (λ p q. omega arith) in
-        let kept = atom_keep K member a (y k) ((values K w.0).unit k) c u.0 w.0
-        (before K c n (c + n) (inside_takes t) u.0 w.0 (omega arith) w.1) here in (
-          w.0,
-          outside_join K c n (inside_takes t) y u.0 w.0 u.1 w.1,
-          killed_join K member (atom_rows (values K w.0) a ((values K w.0).unit k) c) (term_rows (values K w.0) t l (suc k) (c + n))
-              (kept u.2) w.2,
-        )
-
-    atom_extends : (x : Atom) (a : A) (c : ℕ) (y : ℕ → A) → AtomGroups (Fit K) x → (atom_holds member x ≡ true → a ≡ 𝟘)
-        → Extends y c (atom_takes x) (λ z. Killed K member (atom_rows (values K z) x a c))
-    atom_extends (number i) a c y f h = (y, (λ k o. refl), (h, tt))
-    atom_extends (group r) a c y f h = rule_extends r a c y f h
-    atom_extends (choice k b) a c y f h =
-        let u = choice_columns K member b k c y a f.0 h in
-        let w = rules_extends b 1 (k - 1) c a (c + (k - 1)) u.0 f.1 (omega arith) u.2 in
-        (w.0, outside_join K c (k - 1) (rules_take b) y u.0 w.0 u.1 w.1, w.2)
-
-    rules_extends : (b : Rules) (i q k : ℕ) (x : A) (c : ℕ) (y : ℕ → A) → RulesGroups (Fit K) b → k + q ≤ c → Zero K member y b i q k x
-        → Extends y c (rules_take b) (λ z. Killed K member (rules_rows (values K z) b i q k x c))
-    rules_extends (rule r) i q k x c y f l o =
-        let u = rule_extends r (plus_powers (values K y) i 1 k q x) c y f o in
-        (u.0, u.1, rw (plus_keep K i k q x y u.0 (before K k q c (rule_takes r) y u.0 l u.1)) u.2)
-    rules_extends (r comma b) i q k x c y f l o =
-        let n = rule_takes r in
-        let u = rule_extends r (plus_powers (values K y) i 1 k q x) c y f.0 o.0 in
-        let w = rules_extends b (suc i) q k x (c + n) u.0 f.1 (omega arith)
-        (zero_keep K member b (suc i) q k x y u.0 (before K k q c n y u.0 l u.1) o.1) in
-        let z = w.0 in
-        let both = outside_join K c n (rules_take b) y u.0 z u.1 w.1 in
-        let here = plus_keep K i k q x y z (before K k q c (n + rules_take b) y z l both) in
-        let kept = rule_keep K member r (plus_powers (values K y) i 1 k q x) (plus_powers (values K z) i 1 k q x) c u.0 z
-        (before K c n (c + n) (rules_take b) u.0 z (omega arith) w.1) here in (
-          z,
-          both,
-          killed_join K member (rule_rows (values K z) r (plus_powers (values K z) i 1 k q x) c)
-              (rules_rows (values K z) b (suc i) q k x (c + n)) (kept u.2) w.2,
-        )
