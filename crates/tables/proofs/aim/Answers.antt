@@ -1,7 +1,6 @@
 -- `tables::aim` meets its contract: the loop fills the list with 0, and the first number becomes 1 (`aimed` of proofs/Ones.antt).
 -- Assumes nothing.
 use mathlib.Core.Path.{refl, ◌∙◌}
-use Prim.Native.Nat.{◌-◌}
 use native.Mathlib.Omega.{arith}
 use lib.ListN.{length-set}
 use Rattle.lists.proofs.Fill.{fill_start, fill_turn, filled}

@@ -1,7 +1,6 @@
 -- `tables::column` meets its contract: the loop fills the d places of row j.
 -- Assumes nothing.
 use mathlib.Core.Path.{refl}
-use Prim.Native.Nat.{◌-◌}
 use native.Mathlib.Omega.{arith}
 use Rattle.lists.proofs.Fill.{fill_start, fill_turn}
 use Rattle.lists.proofs.Store.{row_fits}
@@ -25,9 +24,9 @@ offset_bounds-table-k c = omega (arith, row_fits c.loop-k.k c.args.d c.args.e c.
 pub bounds-table-k : goal.bounds-table-k
 bounds-table-k c =
     omega (
-  arith,
-  row_fits c.loop-k.k c.args.d c.args.e c.loop-k-test.true,
-)
+      arith,
+      row_fits c.loop-k.k c.args.d c.args.e c.loop-k-test.true,
+    )
 
 pub overflow_add-a-in-loop-k : goal.overflow_add-a-in-loop-k
 overflow_add-a-in-loop-k c = omega (arith, row_fits c.args.j c.args.e c.args.d c.requires.0)

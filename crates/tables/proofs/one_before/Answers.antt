@@ -1,7 +1,6 @@
 -- `tables::one_before` meets its contract: the loop fills the places after the first with c (`one_before_lem` of proofs/Ones.antt).
 -- Assumes nothing.
 use mathlib.Core.Path.{refl, ◌∙◌}
-use Prim.Native.Nat.{◌-◌}
 use native.Mathlib.Omega.{arith}
 use lib.ListN.{length-set}
 use Rattle.lists.proofs.Fill.{fill_start, fill_turn}

@@ -1,7 +1,6 @@
 -- `tables::turn` meets its contract. The loop's invariant: the first j columns are in their places (`Turning` of proofs/Columns.antt).
 -- Assumes nothing.
 use mathlib.Core.Path.{◌∙◌}
-use Prim.Native.Nat.{◌-◌}
 use native.Mathlib.Omega.{arith}
 use Rattle.tables.proofs.Columns.{turning_start, turning_turn, turning_end}
 use Rattle.tables.proofs.turn.Goals as goal
