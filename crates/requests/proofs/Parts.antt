@@ -8,7 +8,12 @@ use native.Mathlib.Omega.{arith}
 use lib.ListN.{length, take, drop, get_or, length-drop, drop_of_length-le}
 use lib.Seq.{take_all, take-length, drop-length, take-nil}
 use borrow.Author.Tests.{lt-ltb, le-ltb}
+use Rattle.requests.specs.Text.{index_of}
 use Rattle.requests.specs.Parts.{past_number_lem, past_list_lem, list_at_lem}
+
+-- A byte looked for in all of a line.
+pub in_line : (line : List ℕ) (byte r : ℕ) → r ≡ 0 + index_of byte (take (length line) line) → r ≡ index_of byte line
+in_line line byte r e = e ∙ zero-add _ ∙ ap (index_of byte) (take-length line)
 
 -- The part from a place to the end; the empty part at the end, where the place is past the end.
 pub rest : (k : ℕ) (xs : List ℕ) → take (length xs - k) (drop k xs) ≡ drop k xs

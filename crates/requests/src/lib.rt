@@ -17,7 +17,8 @@ const SPACE: u8 = 32;
 
 // The place of the first space; the line's length where there is none.
 fn find(line: &[u8]) -> usize
-    ensures { result ≡ index_of 32 line.now }
+    ensures place { result ≡ index_of 32 line.now }
+    ensures within { result ≤ length line.now }
 {
     line.iter().position(|b| *b == SPACE).unwrap_or(line.len())
 }
