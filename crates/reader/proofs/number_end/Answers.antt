@@ -1,5 +1,6 @@
 -- `reader::number_end` meets its contract.
 -- Assumes nothing.
+use native.Mathlib.Omega.{arith}
 use borrow.Author.Tests.{eq-eqb, ne_eqb, le-leb, lt-leb}
 use Rattle.reader.specs.Grammar.{number_end_lem}
 use Rattle.reader.proofs.Places.{left_digit, not_digit}
@@ -20,7 +21,7 @@ returns-then-e-le6 c =
       ← c.kind_at-k.ensures,
       c.in-Digit.is,
       eq-eqb _ _ c.if-d-eq1-2.true,
-      le-leb _ 6 c.if-e-le6.true,
+      le-leb c.in-Digit.e 6 (omega arith),
     )
 
 pub returns-else-e-le6 : goal.returns-else-e-le6
@@ -30,7 +31,7 @@ returns-else-e-le6 c =
       ← c.kind_at-k.ensures,
       c.in-Digit.is,
       eq-eqb _ _ c.if-d-eq1-2.true,
-      lt-leb _ 6 c.if-e-le6.false,
+      lt-leb c.in-Digit.e 6 (omega arith),
     )
 
 pub returns-else-d-eq1-2 : goal.returns-else-d-eq1-2

@@ -24,16 +24,16 @@ pub returns-then-ands-ors-gt31 : goal.returns-then-ands-ors-gt31
 returns-then-ands-ors-gt31 c =
     many_rows _ _ c.is_rule.ensures c.if-not-is_rule.false
     c.occurrences-ands.ensures c.occurrences-ors.ensures
-    (passed c.named.ensures (not_from_true _ c.if-not-named.false)) c.if-ands-ors-gt31.true
+    (passed c.named.ensures (not_from_true _ c.if-not-named.false)) (omega arith)
 
 pub returns-then-ands-gt11 : goal.returns-then-ands-gt11
 returns-then-ands-gt11 c =
     many_columns _ _ c.is_rule.ensures c.if-not-is_rule.false
     c.occurrences-ands.ensures c.occurrences-ors.ensures
-    (passed c.named.ensures (not_from_true _ c.if-not-named.false)) c.if-ands-ors-gt31.false c.if-ands-gt11.true
+    (passed c.named.ensures (not_from_true _ c.if-not-named.false)) (omega arith) c.if-ands-gt11.true
 
 pub returns : goal.returns
 returns c =
     nothing _ _ c.is_rule.ensures c.if-not-is_rule.false
     c.occurrences-ands.ensures c.occurrences-ors.ensures
-    (passed c.named.ensures (not_from_true _ c.if-not-named.false)) c.if-ands-ors-gt31.false c.if-ands-gt11.false
+    (passed c.named.ensures (not_from_true _ c.if-not-named.false)) (omega arith) c.if-ands-gt11.false
