@@ -4,7 +4,7 @@
 use mathlib.Core.Path.{◌≡◌, refl, sym, ap, ap₂, ◌∙◌, subst}
 use mathlib.Core.Bool.{Bool, true, false, ◌&&◌}
 use mathlib.Core.List.{List}
-use Prim.Native.Nat.{ℕ, ◌<◌}
+use Prim.Native.Nat.{ℕ}
 use native.Mathlib.Omega.{arith}
 use lib.Dec.{eqb}
 use lib.ListN.{length}
@@ -20,7 +20,7 @@ use Rattle.scheme.specs.Refusal.{refusal_of, product_refusal_lem, IsScheme}
 use Rattle.scheme.proofs.Refusals.{Valid, valid, valid_fits, and-true}
 use Rattle.product.specs.declared.Verdict.{Verdict}
 use Rattle.product.specs.declared.Verdict.TheVariants.{Yes, No, Refused}
-use Rattle.product.specs.Says.{HasProduct, ProductHanded, ProductSays}
+use Rattle.product.specs.Says.{ProductHanded, ProductSays}
 use Rattle.product.specs.Steps.{RowsOfProducts}
 
 -- A call that is not refused is on a valid scheme, and its result lists have their lengths.

@@ -1,6 +1,6 @@
 -- The places of the answers: none has one at first, and one more set's answer is put in its place.
 -- Assumes nothing.
-use mathlib.Core.Path.{◌≡◌, refl, sym, ap, ◌∙◌, subst, subst⁻¹}
+use mathlib.Core.Path.{◌≡◌, refl, ap, ◌∙◌, subst⁻¹}
 use mathlib.Core.Bool.{Bool}
 use mathlib.Core.List.{List, [], ◌++◌}
 use mathlib.Core.Logic.{⊎_elim}

@@ -5,7 +5,7 @@ use mathlib.Core.Bool.{Bool, true, false, cond, true≢false}
 use mathlib.Core.List.{List, []}
 use Prim.Native.Nat.{ℕ, zero, suc, ◌<◌, ◌≤◌}
 use native.Mathlib.Omega.{arith}
-use lib.ListN.{length, get_or, set, length-set}
+use lib.ListN.{length, set, length-set}
 use lib.Seq.{get_or-set_other}
 use Rattle.algebra.specs.Ring.{Field}
 use Rattle.algebra.specs.Sum.{sum}
@@ -15,11 +15,11 @@ use Rattle.residue.specs.Residue.{F, res}
 use Rattle.residue.proofs.Field.{residue_ring, residues}
 use Rattle.linear.specs.Space.{Comb}
 use Rattle.linear.proofs.Comb.{comb_resp, comb_same}
-use Rattle.linear.proofs.Kept.{count_cong, kept, kept_true, kept_false, unkept_depends}
+use Rattle.linear.proofs.Kept.{count_cong, kept, kept_false, unkept_depends}
 use Rattle.echelon.specs.Basis.{Line, Basis}
-use Rattle.lines.specs.Line.{Low, at}
+use Rattle.lines.specs.Line.{Low}
 use Rattle.backward.specs.Solution.{line_of, lines_of}
-use Rattle.rows.specs.State.{work_of, State, Unmet}
+use Rattle.rows.specs.State.{work_of, Unmet}
 use Rattle.rows.proofs.Turns.{lows_set}
 use Rattle.walk.specs.Going.{Agree}
 

@@ -1,6 +1,5 @@
 -- `deal::fill` meets its contract. The loop's invariant: the first k places hold the shares of the first k rows.
 -- Assumes nothing.
-use Prim.Native.Nat.{◌-◌}
 use native.Mathlib.Omega.{arith}
 use Rattle.lists.proofs.Fill.{fill_start, fill_turn}
 use Rattle.scheme.specs.Dealing.{shares_of}

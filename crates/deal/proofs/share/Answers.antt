@@ -1,6 +1,5 @@
 -- `deal::share` meets its contract. The loop's invariant: the products of the first j places are added up modulo p; it starts at turn 1,
 -- the first product being the secret's. Assumes nothing.
-use Prim.Native.Nat.{◌-◌}
 use native.Mathlib.Nat.{zero-add, add-zero}
 use native.Mathlib.Omega.{arith}
 use Rattle.lists.proofs.Store.{row_fits}

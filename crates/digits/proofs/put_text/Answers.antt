@@ -1,7 +1,6 @@
 -- `digits::put_text` meets its contract. The loop's invariant: the first i bytes of the text are put.
 -- Assumes nothing.
 use mathlib.Core.Path.{refl}
-use Prim.Native.Nat.{◌-◌}
 use lib.ListN.{length-set}
 use Rattle.digits.proofs.Puts.{copied_turn, copied_end}
 use native.Mathlib.Omega.{arith}

@@ -34,12 +34,11 @@ returns-then-not-fits c =
     (c.fits.ensures.no c.if-not-fits.true)
 
 pub weighted-requires : goal.weighted-requires
-weighted-requires c =
-    (
-      omega (arith, c.requires.prime.two),
-      opens_length _ _ _ _ _ _ _ _ _ _ c.ask-a.ensures
-          (not_from_true _ c.if-not-opens.false) ∙ sym c.requires.le_d.5,
-    )
+weighted-requires c = (
+  omega (arith, c.requires.prime.two),
+  opens_length _ _ _ _ _ _ _ _ _ _ c.ask-a.ensures
+      (not_from_true _ c.if-not-opens.false) ∙ sym c.requires.le_d.5,
+)
 
 pub returns : goal.returns
 returns c =

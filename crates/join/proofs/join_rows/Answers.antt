@@ -28,15 +28,15 @@ join_in-requires c =
     record {
       prime = c.requires.prime;
       le_d = (
-          q.0,
-          q.1,
-          q.2,
-          q.3,
-          q.4,
-          q.5,
-          part_length _ 32 c.line-r.result c.line-r.ensures q.1,
-          part_length _ 32 c.line-z.result c.line-z.ensures (omega (arith, q.3)),
-        );
+        q.0,
+        q.1,
+        q.2,
+        q.3,
+        q.4,
+        q.5,
+        part_length _ 32 c.line-r.result c.line-r.ensures q.1,
+        part_length _ 32 c.line-z.result c.line-z.ensures (omega (arith, q.3)),
+      );
       by_index = c.requires.by_index;
     }
 

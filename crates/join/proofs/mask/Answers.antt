@@ -1,7 +1,6 @@
 -- `join::mask` meets its contract: the loop fills x with the list's numbers at the chosen rows and 0 elsewhere.
 -- Assumes nothing.
 use mathlib.Core.Path.{◌∙◌}
-use Prim.Native.Nat.{◌-◌}
 use native.Mathlib.Nat.{mod-lt}
 use native.Mathlib.Omega.{arith}
 use Rattle.lists.proofs.Fill.{fill_start, fill_turn, filled}

@@ -1,6 +1,5 @@
 -- `join::weighted` meets its contract. The loop's invariant: the products of the first k places are added up modulo p.
 -- Assumes nothing.
-use Prim.Native.Nat.{◌-◌}
 use native.Mathlib.Omega.{arith}
 use Rattle.linear.proofs.Summing.{sum_start, sum_turn, sum_end}
 use Rattle.join.proofs.weighted.Goals as goal

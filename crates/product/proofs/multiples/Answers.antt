@@ -2,7 +2,7 @@
 -- Assumes nothing.
 use Rattle.lists.proofs.Fill.{fill_start, fill_turn}
 use lib.ListN.{get_or}
-use Prim.Native.Nat.{ℕ, ◌+◌, ◌-◌, ◌*◌, ◌%◌}
+use Prim.Native.Nat.{ℕ, ◌+◌, ◌*◌, ◌%◌}
 use mathlib.Core.Path.{◌≡◌, ◌∙◌, ap, refl}
 use native.Mathlib.Omega.{arith}
 use Rattle.product.proofs.multiples.Goals as goal

@@ -10,43 +10,43 @@ use Rattle.product.proofs.product_of.Goals as goal
 pub overflow_mul-n : goal.overflow_mul-n
 overflow_mul-n c =
     omega (
-  arith,
-  products_few c.args.d c.args.e c.pairs_of-q.result c.requires.d_bound.0 c.requires.d_bound.2 c.pairs_of-q.ensures,
-)
+      arith,
+      products_few c.args.d c.args.e c.pairs_of-q.result c.requires.d_bound.0 c.requires.d_bound.2 c.pairs_of-q.ensures,
+    )
 
 pub slice_bounds-table-end : goal.slice_bounds-table-end
 slice_bounds-table-end c =
     omega (
-  arith,
-  products_few c.args.d c.args.e c.pairs_of-q.result c.requires.d_bound.0
-      c.requires.d_bound.2 c.pairs_of-q.ensures,
-  c.space-table.ensures,
-)
+      arith,
+      products_few c.args.d c.args.e c.pairs_of-q.result c.requires.d_bound.0
+          c.requires.d_bound.2 c.pairs_of-q.ensures,
+      c.space-table.ensures,
+    )
 
 pub slice_bounds-columns-end : goal.slice_bounds-columns-end
 slice_bounds-columns-end c =
     omega (
-  arith,
-  products_few c.args.d c.args.e c.pairs_of-q.result c.requires.d_bound.0 c.requires.d_bound.2 c.pairs_of-q.ensures,
-  c.space-columns.ensures,
-)
+      arith,
+      products_few c.args.d c.args.e c.pairs_of-q.result c.requires.d_bound.0 c.requires.d_bound.2 c.pairs_of-q.ensures,
+      c.space-columns.ensures,
+    )
 
 pub slice_bounds-duals-end : goal.slice_bounds-duals-end
 slice_bounds-duals-end c =
     omega (
-  arith,
-  products_few c.args.d c.args.e c.pairs_of-q.result c.requires.d_bound.0 c.requires.d_bound.2 c.pairs_of-q.ensures,
-  c.space-duals.ensures,
-)
+      arith,
+      products_few c.args.d c.args.e c.pairs_of-q.result c.requires.d_bound.0 c.requires.d_bound.2 c.pairs_of-q.ensures,
+      c.space-duals.ensures,
+    )
 
 pub slice_bounds-c-end : goal.slice_bounds-c-end
 slice_bounds-c-end c =
     omega (
-  arith,
-  pairs_few c.args.e c.requires.d_bound.2,
-  c.pairs_of-q.ensures,
-  c.line-c.ensures,
-)
+      arith,
+      pairs_few c.args.e c.requires.d_bound.2,
+      c.pairs_of-q.ensures,
+      c.line-c.ensures,
+    )
 
 pub product_in-requires : goal.product_in-requires
 product_in-requires c =

@@ -2,7 +2,6 @@
 -- (`Rowing` of proofs/Filling.antt).
 -- Assumes nothing.
 use Rattle.product.proofs.Filling.{rowing_start, rowing_room, rowing_turn, rowing_end}
-use Prim.Native.Nat.{◌-◌}
 use native.Mathlib.Omega.{arith}
 use Rattle.product.proofs.product_row.Goals as goal
 

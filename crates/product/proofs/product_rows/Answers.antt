@@ -3,7 +3,6 @@
 -- Assumes nothing.
 use Rattle.product.proofs.Filling.{filling_start, filling_turn, filling_end}
 use Rattle.lists.proofs.Store.{row_fits}
-use Prim.Native.Nat.{◌-◌}
 use native.Mathlib.Omega.{arith}
 use Rattle.product.proofs.product_rows.Goals as goal
 

@@ -1,7 +1,6 @@
 -- `reading::check_sum` meets its contract. The loop's invariant: the first o bytes are added up, at most 129540 each.
 -- Assumes nothing.
 use mathlib.Core.Path.{refl}
-use Prim.Native.Nat.{◌-◌}
 use native.Mathlib.Omega.{arith}
 use Rattle.reading.proofs.Sums.{sum_go, sum_end}
 use Rattle.reading.proofs.check_sum.Goals as goal

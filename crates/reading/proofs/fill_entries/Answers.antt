@@ -1,6 +1,6 @@
 -- `reading::fill_entries` meets its contract. The loop's invariant: the first i places hold the first i entries.
 -- Assumes nothing.
-use Prim.Native.Nat.{◌-◌, ◌/◌}
+use Prim.Native.Nat.{◌/◌}
 use native.Mathlib.Omega.{arith}
 use Rattle.lists.proofs.Fill.{fill_start, fill_turn}
 use Rattle.reading.proofs.Overs.{filled_over}

@@ -1,6 +1,5 @@
 -- `reading::fill_labels` meets its contract. The loop's invariant: the first k places hold the first k labels.
 -- Assumes nothing.
-use Prim.Native.Nat.{◌-◌}
 use native.Mathlib.Omega.{arith}
 use Rattle.lists.proofs.Fill.{fill_start, fill_turn}
 use Rattle.reading.proofs.Overs.{filled_over}

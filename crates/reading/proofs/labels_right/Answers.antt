@@ -1,7 +1,6 @@
 -- `reading::labels_right` meets its contract. The loop's invariant: the first k labels are right.
 -- Assumes nothing.
 use mathlib.Core.Path.{sym, ap, ◌∙◌}
-use Prim.Native.Nat.{◌-◌}
 use native.Mathlib.Omega.{arith}
 use Rattle.scheme.specs.Tests.{within}
 use Rattle.format.specs.Reading.{record_at}

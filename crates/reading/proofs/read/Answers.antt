@@ -33,8 +33,7 @@ fill_entries-requires c =
 
 pub returns : goal.returns
 unfolding ReadSays
-returns c =
-    (
+returns c = (
   gone c.refusal-bad.ensures c.if-bad-ne0.false,
   c.heading-s.ensures,
   c.fill_labels.ensures,

@@ -1,6 +1,5 @@
 -- `reading::same_at` meets its contract. The loop's invariant: the first o bytes are the word's.
 -- Assumes nothing.
-use Prim.Native.Nat.{◌-◌}
 use native.Mathlib.Omega.{arith}
 use borrow.Author.Tests.{eq-eqb, ne_eqb}
 use Rattle.reading.proofs.Trying.{try_start, try_turn, try_stop, try_end}

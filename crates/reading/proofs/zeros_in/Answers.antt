@@ -1,6 +1,5 @@
 -- `reading::zeros_in` meets its contract. The loop's invariant: the first j bytes pass the test.
 -- Assumes nothing.
-use Prim.Native.Nat.{◌-◌}
 use native.Mathlib.Omega.{arith}
 use Rattle.scheme.proofs.Tests.{failed, passed}
 use Rattle.reading.proofs.Trying.{try_start, try_turn, try_stop, try_end}

@@ -1,7 +1,6 @@
 -- `reading::zeros_right` meets its contract. The loop's invariant: the first b blocks pass the test.
 -- Assumes nothing.
 use mathlib.Core.Path.{ap}
-use Prim.Native.Nat.{◌-◌}
 use lib.ListN.{length}
 use native.Mathlib.Omega.{arith}
 use Rattle.scheme.proofs.Tests.{failed, passed}

@@ -1,6 +1,5 @@
 -- `requests::copy_bytes` meets its contract. The loop's invariant: the first i numbers are copied.
 -- Assumes nothing.
-use Prim.Native.Nat.{◌-◌}
 use native.Mathlib.Omega.{arith}
 use Rattle.lists.proofs.Fill.{fill_start, fill_turn}
 use Rattle.scheme.proofs.Refusals.{below_at}

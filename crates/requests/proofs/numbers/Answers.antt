@@ -1,7 +1,6 @@
 -- `requests::numbers` answers what a text says. What is stored and what the rest of the text goes on with are its numbers at each turn.
 -- Assumes nothing.
 use mathlib.Core.Path.{refl}
-use Prim.Native.Nat.{◌-◌}
 use borrow.Author.Rules.{rules}
 use Rattle.requests.proofs.Steps.{nothing_read, from_place, all_read, says_bad, says_count}
 use Rattle.requests.proofs.numbers.Goals as goal

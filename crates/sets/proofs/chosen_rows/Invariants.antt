@@ -1,6 +1,5 @@
 -- `sets::chosen_rows` meets its contract: the number is built from the last row to the first (`Built` of proofs/Mask.antt).
 -- Assumes nothing.
-use Prim.Native.Nat.{◌-◌}
 use lib.ListN.{length}
 use Rattle.scheme.specs.Sets.{of_set}
 use Rattle.sets.proofs.Mask.{Built}

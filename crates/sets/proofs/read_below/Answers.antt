@@ -1,8 +1,6 @@
 -- `sets::read_below` meets its contract. The loop's invariant: what is left of the two lists gives the answer for all of them.
 -- Assumes nothing.
-use mathlib.Core.Logic.{⊎_elim}
 use mathlib.Core.Path.{refl, sym, ◌∙◌}
-use Prim.Native.Nat.{◌-◌}
 use native.Mathlib.Omega.{arith}
 use borrow.Author.Tests.{lt-ltb, le-ltb}
 use Rattle.sets.proofs.Read.{read_stop, read_go, read_skip, read_end}

@@ -1,7 +1,6 @@
 -- `sheet_lines::put_each` meets its contract: after i turns the lines of the first i sets stand there, of 256 bytes at most each.
 -- Assumes nothing.
 use mathlib.Core.Path.{◌≡◌, refl, ◌∙◌}
-use Prim.Native.Nat.{◌-◌}
 use native.Mathlib.Omega.{arith}
 use Rattle.sheet_lines.proofs.Lines.{lines_none, lines_more, lines_end}
 use Rattle.sheet_lines.proofs.put_each.Goals as goal

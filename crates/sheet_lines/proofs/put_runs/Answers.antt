@@ -1,7 +1,6 @@
 -- `sheet_lines::put_runs` meets its contract: after each run the lines of the first i sets stand there, of 256 bytes at most each.
 -- Assumes nothing.
 use mathlib.Core.Path.{◌≡◌, refl, ◌∙◌}
-use Prim.Native.Nat.{◌-◌}
 use native.Mathlib.Omega.{arith}
 use Rattle.sheet_lines.proofs.Lines.{lines_none, lines_join, lines_end}
 use Rattle.sheet_lines.proofs.put_runs.Goals as goal

@@ -2,7 +2,6 @@
 -- Assumes nothing.
 use mathlib.Core.Path.{refl}
 use Rattle.sheet_lines.proofs.Texts.{vector_start, vector_turn, vector_end}
-use Prim.Native.Nat.{◌-◌}
 use native.Mathlib.Omega.{arith}
 use Rattle.sheet_lines.proofs.put_vector.Goals as goal
 

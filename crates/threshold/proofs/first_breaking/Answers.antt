@@ -2,7 +2,6 @@
 -- (rows/specs/State.antt).
 -- Assumes nothing.
 use mathlib.Core.Path.{◌≡◌}
-use mathlib.Core.Logic.{⊎_elim}
 use Prim.Native.Nat.{suc, ◌<◌, ◌-◌, ◌^◌}
 use native.Mathlib.Omega.{arith}
 use Rattle.lists.proofs.Store.{row_fits}

@@ -1,7 +1,6 @@
 -- `walk::clear` meets its contract: the first x places are 0.
 -- Assumes nothing.
 use mathlib.Core.Path.{refl, ◌∙◌}
-use Prim.Native.Nat.{◌-◌}
 use native.Mathlib.Omega.{arith}
 use Rattle.lists.proofs.Fill.{fill_start, fill_turn, filled}
 use Rattle.walk.proofs.clear.Goals as goal

@@ -2,7 +2,7 @@
 -- Assumes nothing.
 use mathlib.Core.List.{◌++◌}
 use mathlib.Core.Path.{◌≡◌, ◌∙◌}
-use Prim.Native.Nat.{suc, ◌+◌, ◌-◌}
+use Prim.Native.Nat.{suc, ◌-◌}
 use native.Mathlib.Omega.{arith}
 use lib.ListN.{drop, length}
 use Rattle.sets.proofs.Asked.{labels_right}
@@ -37,9 +37,9 @@ go_on-row-requires c =
       by_index = c.requires.by_index_2;
       ratio = c.ratio-inv.ensures.1;
       marks = marks_start p.p (p.e - 1) (entry p.e a.entries.now) (bit 0) counts.result blank.result
-                counts.ensures.0 counts.ensures.1
-                (unmet_start p.p p.e (p.e - 1) p.d a.entries.now (bit 0) q blank.result blank.ensures.0
-                (λ lp j i. rw (blank.ensures.1 j i) (omega arith)));
+          counts.ensures.0 counts.ensures.1
+          (unmet_start p.p p.e (p.e - 1) p.d a.entries.now (bit 0) q blank.result blank.ensures.0
+          (λ lp j i. rw (blank.ensures.1 j i) (omega arith)));
     }
 
 pub loop-i-init : goal.loop-i-init

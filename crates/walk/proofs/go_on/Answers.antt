@@ -57,12 +57,12 @@ next_line-v-requires c =
     record {
       prime = c.requires.prime;
       le_e = (
-          c.requires.d_bound.1,
-          c.requires.d_bound.2,
-          omega arith,
-          omega (arith, l.invariant.2),
-          omega (arith, row_fits l.k a.d a.e (omega arith), c.requires.d_bound.3),
-        );
+        c.requires.d_bound.1,
+        c.requires.d_bound.2,
+        omega arith,
+        omega (arith, l.invariant.2),
+        omega (arith, row_fits l.k a.d a.e (omega arith), c.requires.d_bound.3),
+      );
       ratio = c.requires.ratio;
       low = (λ lp i. let h = c.requires.by_index i in omega arith);
       lows = st.lows;

@@ -24,7 +24,7 @@ go_on-requires c =
       by_index = c.requires.by_index;
       ratio = c.requires.ratio;
       marks = marks_agree a.p (a.e - 1) (entry a.e a.entries.now) (bit a.last) (bit a.chosen) a.row k.result a.counts.now
-                a.t.now k.ensures.1 c.if-row-k.false c.requires.walked.marks;
+          a.t.now k.ensures.1 c.if-row-k.false c.requires.walked.marks;
     }
 
 pub returns : goal.returns

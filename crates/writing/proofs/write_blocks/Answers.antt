@@ -1,6 +1,5 @@
 -- `writing::write_blocks` meets its contract. The loop's invariant: the first b blocks are written.
 -- Assumes nothing.
-use Prim.Native.Nat.{◌-◌}
 use native.Mathlib.Omega.{arith}
 use Rattle.lists.proofs.Fill.{fill_start}
 use Rattle.scheme.proofs.Refusals.{valid}

@@ -1,7 +1,6 @@
 -- `writing::write_check` meets its contract. The loop's invariant: the first k bytes are written.
 -- Assumes nothing.
 use mathlib.Core.Path.{refl}
-use Prim.Native.Nat.{◌-◌}
 use native.Mathlib.Omega.{arith}
 use Rattle.lists.proofs.Fill.{fill_start, fill_turn, filled_all}
 use Rattle.writing.proofs.write_check.Goals as goal

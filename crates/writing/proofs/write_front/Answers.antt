@@ -2,7 +2,6 @@
 -- counted from 1, is added up.
 -- Assumes nothing.
 use mathlib.Core.Path.{refl}
-use Prim.Native.Nat.{◌-◌}
 use native.Mathlib.Omega.{arith}
 use Rattle.lists.proofs.Fill.{fill_start, fill_turn, filled_all}
 use Rattle.scheme.proofs.Refusals.{valid}
