@@ -4,19 +4,15 @@
 use Rattle.std.specs.Prelude.{ℕ}
 use Rattle.scheme.specs.declared.Shape.{Shape}
 use Rattle.scheme.specs.declared.Outcome.{Outcome}
-use Rattle.scheme.specs.declared.Outcome.TheVariants as Outcome
 use Rattle.scheme.specs.declared.Made.{Made}
-use Rattle.scheme.specs.declared.Made.TheVariants as Made
 use Rattle.ask.specs.declared.Verdict as Ask
 use Rattle.ask.specs.declared.Verdict.TheVariants as AskVerdict
 use Rattle.join.specs.declared.Joined.{Joined}
-use Rattle.join.specs.declared.Joined.TheVariants as Joined
 use Rattle.product.specs.declared.Verdict as Product
 use Rattle.product.specs.declared.Verdict.TheVariants as ProductVerdict
 use Rattle.threshold.specs.declared.Verdict as Threshold
 use Rattle.threshold.specs.declared.Verdict.TheVariants as ThresholdVerdict
 use Rattle.sheets.specs.declared.Written.{Written}
-use Rattle.sheets.specs.declared.Written.TheVariants as Written
 
 abbrev pub outcome_number_lem : Outcome → ℕ
 outcome_number_lem Outcome.Done = 0

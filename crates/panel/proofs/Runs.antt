@@ -20,7 +20,7 @@ use Rattle.join.specs.Says.{JoinSays}
 use Rattle.secrecy.proofs.Joined.{join_reads_cards}
 use Rattle.panel.specs.declared.Panel.{Panel}
 use Rattle.panel.specs.declared.Coded.{Coded}
-use Rattle.panel.specs.Cards.{shape_of, labels_of, entries_of, stored_of, rows_of, put_refusal_lem, take_refusal_lem, with_card, without_card, told_at, put_in, taken_out, fresh_panel}
+use Rattle.panel.specs.Cards.{shape_of, labels_of, entries_of, stored_of, rows_of, put_refusal_lem, take_refusal_lem, with_card, without_card, told_at, fresh_panel}
 use Rattle.panel.specs.Says.{CodeSays}
 use Rattle.panel.specs.Ran.{ran}
 use Rattle.panel.specs.History.{Call, put, out, ask, Held, no_cards, changed, held_after, is_in, set_of, share_from, shares_of}

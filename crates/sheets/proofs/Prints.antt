@@ -1,10 +1,9 @@
 -- What the calls that print answer, from what the steps below them leave: a text put over the first places of the lent list.
 -- Assumes nothing.
-use mathlib.Core.Path.{◌≡◌, refl, sym, ap, ◌∙◌, subst, subst⁻¹}
+use mathlib.Core.Path.{◌≡◌, refl, sym, ap, ◌∙◌, subst⁻¹}
 use mathlib.Core.Bool.{true}
-use mathlib.Core.List.{List, [], ◌++◌}
+use mathlib.Core.List.{List, []}
 use Prim.Native.Nat.{ℕ, zero, suc, ◌+◌, ◌^◌, ◌<◌, ◌≤◌}
-use native.Mathlib.Nat.{add-zero}
 use native.Mathlib.Omega.{arith}
 use lib.Dec.{eqb, ltb}
 use lib.ListN.{length}
@@ -16,7 +15,6 @@ use Rattle.format.proofs.ReadBack.{modulus_below}
 use Rattle.digits.specs.Put.{Put, PutSome}
 use Rattle.digits.proofs.Puts.{put_none, put_first}
 use Rattle.sheet_lines.specs.Texts.{heading_text, refused_text}
-use Rattle.sheet_lines.specs.Lines.{IsLine, IsLines}
 use Rattle.sheets.specs.declared.Written.TheVariants.{Bytes, Refused}
 use Rattle.sheets.specs.Sheet.{SchemePart, RefusedPart}
 use Rattle.sheets.specs.Says.{PrintSays, line_refusal_lem}

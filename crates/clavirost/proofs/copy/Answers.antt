@@ -1,7 +1,6 @@
 -- `clavirost::copy` meets its contract. The loop's invariant: the first i numbers are copied.
 -- Assumes nothing.
 use mathlib.Core.Path.{refl}
-use Prim.Native.Nat.{◌-◌}
 use native.Mathlib.Omega.{arith}
 use Rattle.lists.proofs.Fill.{fill_start, fill_turn}
 use Rattle.clavirost.proofs.Copies.{copied}

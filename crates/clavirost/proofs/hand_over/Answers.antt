@@ -1,8 +1,8 @@
 -- `hand_over` meets its contract.
 -- Assumes nothing.
+use native.Mathlib.Omega.{arith}
 use mathlib.Core.Path.{◌≡◌, sym, ◌∙◌}
-use Prim.Native.Nat.{ℕ}
-use lib.ListN.{length, length-map}
+use lib.ListN.{length}
 use Rattle.clavirost.proofs.hand_over.Goals as goal
 
 pub copy-requires : goal.copy-requires

@@ -1,7 +1,5 @@
 -- `panel::count_rows` meets its contract. The loop's invariant: what is counted and the rows of the rest make the whole.
 -- Assumes nothing.
-use Prim.Native.Nat.{◌-◌}
-use mathlib.Core.Logic.{⊎_elim}
 use Rattle.panel.proofs.Laying.{own_here, own_not, rows_end}
 use native.Mathlib.Omega.{arith}
 use borrow.Author.Rules.{rules}

@@ -1,8 +1,6 @@
 -- `panel::lay` meets its contract. The loop's invariant: laying the rest of the shares at the rest of the rows gives the whole.
 -- Assumes nothing.
-use Prim.Native.Nat.{◌-◌}
 use mathlib.Core.Path.{sym, ◌∙◌}
-use mathlib.Core.Logic.{⊎_elim}
 use lib.ListN.{length-set}
 use Rattle.panel.proofs.Laying.{own_here, own_not, lay_here, lay_not, lay_end}
 use native.Mathlib.Omega.{arith}

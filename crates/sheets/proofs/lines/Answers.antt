@@ -29,18 +29,18 @@ put_lines-requires c =
     record {
       prime = v.prime;
       p_bound = (
-          p,
-          v.n_high,
-          v.d_high,
-          v.e_low,
-          v.e_high,
-          v.labels_length,
-          v.entries_length,
-          omega (arith, r),
-          omega (arith, z),
-          c.requires.count_bound.0,
-          c.requires.count_bound.1,
-        );
+        p,
+        v.n_high,
+        v.d_high,
+        v.e_low,
+        v.e_high,
+        v.labels_length,
+        v.entries_length,
+        omega (arith, r),
+        omega (arith, z),
+        c.requires.count_bound.0,
+        c.requires.count_bound.1,
+      );
       by_index = v.label;
       by_index_2 = v.entry;
     }

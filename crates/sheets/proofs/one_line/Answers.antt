@@ -29,17 +29,17 @@ put_set-requires c =
     record {
       prime = v.prime;
       p_bound = (
-          p,
-          v.n_high,
-          v.d_high,
-          v.e_low,
-          v.e_high,
-          v.labels_length,
-          v.entries_length,
-          omega (arith, r),
-          omega (arith, z),
-          omega (arith, c.requires.set_bound.1),
-        );
+        p,
+        v.n_high,
+        v.d_high,
+        v.e_low,
+        v.e_high,
+        v.labels_length,
+        v.entries_length,
+        omega (arith, r),
+        omega (arith, z),
+        omega (arith, c.requires.set_bound.1),
+      );
       by_index = v.label;
       by_index_2 = v.entry;
     }

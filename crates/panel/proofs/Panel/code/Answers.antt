@@ -1,10 +1,8 @@
 -- `Panel::code` meets its contract: where the four numbers are right the parts lent are the panel's lists, and joining answers.
 -- Assumes nothing.
 use native.Mathlib.Omega.{arith}
-use mathlib.Core.Path.{◌≡◌, refl, sym, ◌∙◌}
-use Prim.Native.Nat.{ℕ}
+use mathlib.Core.Path.{refl}
 use native.Mathlib.Nat.{sub-zero}
-use lib.ListN.{length, length-map}
 use Rattle.scheme.proofs.Refusals.{gone, rows_few}
 use Rattle.join.proofs.Says.{refused_early}
 use Rattle.panel.proofs.Refused.{numbers_stand, rows_at_most}

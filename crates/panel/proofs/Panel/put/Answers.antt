@@ -1,10 +1,9 @@
 -- `Panel::put` meets its contract: what is not refused has its shares laid and its mark set.
 -- Assumes nothing.
 use native.Mathlib.Omega.{arith}
-use mathlib.Core.Path.{◌≡◌, sym, ◌∙◌}
-use Prim.Native.Nat.{ℕ}
+use mathlib.Core.Path.{◌≡◌}
 use native.Mathlib.Nat.{sub-zero}
-use lib.ListN.{length, length-map}
+use lib.ListN.{length}
 use Rattle.scheme.proofs.Refusals.{gone}
 use Rattle.tables.proofs.Parts.{part_length}
 use Rattle.panel.proofs.Refused.{put_accepted}

@@ -1,10 +1,9 @@
 -- `Panel::put_refusal` meets its contract: where the four numbers are right the parts lent are the panel's lists.
 -- Assumes nothing.
 use native.Mathlib.Omega.{arith}
-use mathlib.Core.Path.{◌≡◌, sym, ◌∙◌}
-use Prim.Native.Nat.{ℕ}
+use mathlib.Core.Path.{◌≡◌}
 use native.Mathlib.Nat.{sub-zero}
-use lib.ListN.{length, length-map}
+use lib.ListN.{length}
 use Rattle.tables.proofs.Parts.{part_length}
 use Rattle.scheme.proofs.Refusals.{gone, rows_few}
 use Rattle.panel.proofs.Refused.{numbers_stand, rows_at_most}
