@@ -2,60 +2,52 @@
 
 #![tactic(auto)]
 
-ghost use Rattle.std.specs.Prelude.{◌≡◌};
+ghost use Rattle.std.specs.Prelude.{◌≡◌, IfOk};
+ghost use Rattle.scheme.specs.Tests.{refused};
+ghost use Rattle.scheme.specs.Checked.{IsOf};
 ghost use Rattle.scheme.specs.Refusal.{ask_refusal_lem};
 ghost use Rattle.ask.specs.Says.{AskSays};
 
-use scheme::Shape;
+use scheme::{Checked, Refusal, Scheme};
 
-// Open with r, closed with z, or refused with the paper's number.
-#[derive(Drop)]
+// Open with r, or closed with z.
+#[derive(Clone, Copy, Debug, PartialEq, Eq)]
 pub enum Verdict {
     Open,
     Closed,
-    Refused(u32),
 }
 
-fn ask_refusal(
-    s: Shape,
-    labels: &[u32],
-    entries: &[u32],
+// The scheme, where nothing is refused.
+#[tactic(auto, using(scheme::proofs::Refusals::refusal_more))]
+fn admitted<'a>(
+    scheme: Scheme<'a>,
     set: u32,
     rplaces: usize,
     zplaces: usize,
-) -> u32
-    ensures { result ≡ ask_refusal_lem s labels.now entries.now set rplaces zplaces }
+) -> Result<Checked<'a>, Refusal>
+    ensures refusal { refused result ≡ ask_refusal_lem scheme.entry.shape scheme.entry.labels.now scheme.entry.entries.now set rplaces zplaces }
+    ensures same { IfOk result (IsOf scheme.entry.shape scheme.entry.labels.now scheme.entry.entries.now) }
+    ensures places { IfOk result (λ c. (rplaces ≡ c.shape.d) × (zplaces ≡ c.shape.e)) }
 {
-    let fits = scheme::both_same(rplaces, s.d, zplaces, s.e);
-    let bad = scheme::refusal(s, labels, entries, fits);
-    if bad != 0 {
-        return bad;
-    }
-    sets::set_refusal(s.n, set)
+    let s = scheme.shape;
+    let checked = scheme.checked(rplaces == s.d && zplaces == s.e)?;
+    sets::set_refusal(s.n, set)?;
+    Ok(checked)
 }
 
 // Is the set open? Wrong answers that the contract rules out: closed because the set has fewer rows than columns; open because its rows are
 // independent, or many; a witness that begins with 0.
-pub fn ask(
-    s: Shape,
-    labels: &[u32],
-    entries: &[u32],
-    set: u32,
-    r: &mut [u32],
-    z: &mut [u32],
-) -> Verdict
-    ensures { AskSays s labels.now entries.now set r.old
+#[tactic(auto, using(crate::proofs::Says::says_refused, crate::proofs::Says::says_open, crate::proofs::Says::says_closed))]
+pub fn ask(scheme: Scheme<'_>, set: u32, r: &mut [u32], z: &mut [u32]) -> Result<Verdict, Refusal>
+    ensures { AskSays scheme.entry.shape scheme.entry.labels.now scheme.entry.entries.now set r.old
         z.old result r.new z.new }
 {
-    let bad = ask_refusal(s, labels, entries, set, r.len(), z.len());
-    if bad != 0 {
-        return Verdict::Refused(bad);
+    let checked = admitted(scheme, set, r.len(), z.len())?;
+    let s = checked.shape;
+    let chosen = sets::chosen_rows(set, checked.labels);
+    let a = rows::ask(s.p, s.d, s.e, chosen, checked.entries, r, z);
+    if a.opens {
+        return Ok(Verdict::Open);
     }
-    let chosen = sets::chosen_rows(set, labels);
-    let a = rows::ask(s.p, s.d, s.e, chosen, entries, r, z);
-    let opens = a.opens;
-    if opens {
-        return Verdict::Open;
-    }
-    Verdict::Closed
+    Ok(Verdict::Closed)
 }

@@ -19,7 +19,7 @@ use Rattle.linear.proofs.Carry.{res_dot}
 use Rattle.echelon.specs.Backward.{Solving, Killing}
 use Rattle.echelon.proofs.Backward.{solve_start, solve_step, kill_start, kill_step}
 use Rattle.lines.specs.Line.{at, col_sum, row_sum}
-use Rattle.backward.specs.Solution.{lines_of, facs_of, vec_of, asked, Solved, Opened, Killed}
+use Rattle.backward.specs.Solution.{lines_of, facs_of, vec_of, asked, Solved, Killed}
 
 module _ (p : ℕ) (H : Prime p) where
   -- A sum of products with something before it, and a product, as residues.
@@ -124,15 +124,6 @@ openings_turn p k s d j x t v a r lj ls lk lr ex o = let u = o.upto in let na = 
   solved = open_go p k s d j (j - 1) x t v a r (omega arith) u (omega arith) (omega arith) (omega arith) ex.0 o.solved;
 }
 
-pub openings_end : (p k s j : ℕ) (t : List (List ℕ)) (v a r₀ r : List ℕ) (d : ℕ) → d ≡ length r₀ → j ≤ 0 → Openings p k s t v d j a r
-    → Opened p k s t v r₀ r
-openings_end p k s j t v a r₀ r d e l o = let z : j ≡ 0 = omega arith in record {
-  len = o.lenr ∙ e;
-  small = o.smallr;
-  a = a;
-  solved = subst (λ (d : ℕ). Solved p k s t v d 0 a r) e (subst (λ (j : ℕ). Solved p k s t v d j a r) z o.solved);
-}
-
 -- What holds in the loop of `killing` while the lines below j do not count yet.
 pub record Killings (p s : ℕ) (t : List (List ℕ)) (f j : ℕ) (y : List ℕ) : Type 0 where
   pub upto : j ≤ s
@@ -161,7 +152,3 @@ killings_turn p e s f j x r t y qe le lj lc ex er o = let u = o.upto in let n = 
   one = get_or-set_other y (at t (j - 1) 25) f r 0 (λ q. omega arith) ∙ o.one;
   killed = kill_go p e s f j (j - 1) x r t y qe (omega arith) u lc (omega arith) ex er.0 o.killed;
 }
-
--- The weight from its parts.
-pub weight_is : (p r x h b c q g : ℕ) → r ≡ x * h % p → h ≡ (b + c) % p → b ≡ q * g % p → r ≡ x * ((q * g % p + c) % p) % p
-weight_is p r x h b c q g er eh eb = er ∙ ap (λ (h : ℕ). x * h % p) (eh ∙ ap (λ (b : ℕ). (b + c) % p) eb)

@@ -14,7 +14,7 @@ use Rattle.rules.specs.Tree.{Rule, Term, Atom, term, ◌or◌, atom, ◌and◌, 
 use Rattle.rules.specs.Text.{bar, ampersand, opening, closing, numeral, rule_text, term_text, atom_text, WellRule, WellTerm, WellAtom}
 use Rattle.rules.specs.Construction.{ands, rule_takes, inside_takes, atom_takes, less_all, rule_rows, term_rows, atom_rows}
 use Rattle.rules.proofs.Counting.{term_count, atom_count}
-use Rattle.reader.specs.declared.Read.TheVariants.{At}
+use Rattle.std.specs.Prelude.{Some}
 use Rattle.reader.specs.Grammar.{class_of, kind_at, is_or, is_and, is_close, digit, number_end_lem}
 use Rattle.reader.proofs.Begins.{
   kind_of_holds,
@@ -38,6 +38,7 @@ use Rattle.builder.specs.Building.{
   ands_at,
   Out,
   standing,
+  well,
   chain,
   atoms_built,
   rule_built,
@@ -91,7 +92,7 @@ labels_in ls i L = written (λ r. r.0) ls i L
 
 -- The rows L are written from row on, q is the place past them and col the next column.
 abbrev pub done : List (List ℕ) → List ℕ → ℕ → List (ℕ × List ℕ) → ℕ → ℕ → Out
-done es ls row L q col = standing (rows_in es row L) (labels_in ls row L) q (row + length L) col
+done es ls row L q col = well (standing (rows_in es row L) (labels_in ls row L) q (row + length L) col)
 
 done_then : (es : List (List ℕ)) (ls : List ℕ) (row : ℕ) (L M : List (ℕ × List ℕ)) (q c q' c' : ℕ) → q ≡ q' → c ≡ c'
     → done (rows_in es row L) (labels_in ls row L) (row + length L) M q c ≡ done es ls row (L ++ M) q' c'
@@ -107,11 +108,11 @@ done_then es ls row L M q c q' c' e f =
 
 -- A number of one digit, and one of two: where it ends and what it counts.
 module _ (s : List ℕ) (at : ℕ) where
-  one_digit : (v : ℕ) (z : List ℕ) → drop (at + 1) s ≡ z → NoDigit z → (number_end_lem s v at ≡ At (at + 1)) × (number_value s v at ≡ v)
+  one_digit : (v : ℕ) (z : List ℕ) → drop (at + 1) s ≡ z → NoDigit z → (number_end_lem s v at ≡ Some (at + 1)) × (number_value s v at ≡ v)
   unfolding number_end_lem number_value
   one_digit v z e h = rw (digit_false s (at + 1) z e h) (refl, refl)
 
-  two_digits : (i : ℕ) (z : List ℕ) → drop (at + 1) s ≡ (38 + i) ∷ z → 10 ≤ i → i ≤ 16 → (number_end_lem s 1 at ≡ At (at + 2)) × (number_value s 1 at ≡ i)
+  two_digits : (i : ℕ) (z : List ℕ) → drop (at + 1) s ≡ (38 + i) ∷ z → 10 ≤ i → i ≤ 16 → (number_end_lem s 1 at ≡ Some (at + 2)) × (number_value s 1 at ≡ i)
   unfolding number_end_lem number_value
   two_digits i z e l u =
       let second = digit_class (38 + i) (omega arith) (omega arith) in
@@ -176,7 +177,7 @@ module _ (s : List ℕ) (p : ℕ) where
     where
       go : (t : Bool) → ltb i 10 ≡ t → drop at s ≡ cond t ((48 + i) ∷ []) (49 ∷ (38 + i) ∷ []) ++ z
           → atom_built (suc n) s p d v (standing es ls at row c)
-          ≡ standing (set es row v) (set ls row i) (at + length (cond (ltb i 10) ((48 + i) ∷ []) (49 ∷ (38 + i) ∷ []))) (row + 1) (c + 0)
+          ≡ well (standing (set es row v) (set ls row i) (at + length (cond (ltb i 10) ((48 + i) ∷ []) (49 ∷ (38 + i) ∷ []))) (row + 1) (c + 0))
       go true t e =
           let k = ltb-true i 10 t in
           let q : 48 + i - 48 ≡ i = omega arith in

@@ -13,6 +13,7 @@ use Rattle.rules.specs.Construction.{modulo, rule_rows, columns, rows}
 use Rattle.rules.proofs.Same.{AllRel, Match, rule_same}
 use Rattle.rules.proofs.Counting.{rule_count, label_at}
 use Rattle.reader.proofs.Ends.{nothing_follows}
+use Rattle.std.specs.Prelude.{Option, Some}
 use Rattle.builder.specs.declared.Place.{Place}
 use Rattle.builder.specs.Building.{vectors, out, standing, rule_built}
 use Rattle.builder.specs.Left.{Held, Left}
@@ -93,29 +94,31 @@ module _ {A : Type 0} (what : ℕ × List ℕ → A) (z : A) where
       → get_or (written what xs 0 L) k z ≡ what (get_or L k (0, []))
   read_first xs L k l u = ap (λ (n : ℕ). get_or (written what xs 0 L) n z) (sym (zero-add k)) ∙ read_back xs 0 L k l (omega arith)
 
-held : (p : ℕ) (r : Rule) (es : List (List ℕ)) (ls : List ℕ) (place : Place) (es' : List (List ℕ)) (ls' : List ℕ) (q : ℕ)
-    → out es' ls' place ≡ done es ls 0 (wide p r) q (columns r) → length (rule_names r) ≤ 32 → columns r ≤ 12 → 32 ≤ length es → 32 ≤ length ls
-    → Held p r place es' ls'
-held p r es ls place es' ls' q o d c a b =
+held : (p : ℕ) (r : Rule) (es : List (List ℕ)) (ls : List ℕ) (result : Option Place) (es' : List (List ℕ)) (ls' : List ℕ) (q : ℕ)
+    → out es' ls' result ≡ done es ls 0 (wide p r) q (columns r) → length (rule_names r) ≤ 32 → columns r ≤ 12 → 32 ≤ length es → 32 ≤ length ls
+    → (place : Place) × (result ≡ Some place) × Held p r place es' ls'
+held p r es ls result es' ls' q o d c a b =
     let L = wide p r in
     let n = rule_count (vectors p) r ((vectors p).unit 0) 1 in
-    let w = rows_cut p r c in
-    record {
-      ok = ap (λ x. x.place.ok) o;
-      row = ap (λ x. x.place.row) o ∙ omega (arith, n);
-      col = ap (λ x. x.place.col) o;
-      labels = λ k l. ap (λ x. get_or x.labs k 0) o ∙ read_first (λ r. r.0) 0 ls L k (omega (arith, n)) (omega (arith, n))
-          ∙ (cut_at (columns r) L (rows p r) w k (omega (arith, n))).0 ∙ sym (label_at (rows p r) k);
-      entries = λ k l. ap (λ x. take (columns r) (get_or x.ents k [])) o
-          ∙ ap (take (columns r)) (read_first (λ r. r.1) [] es L k (omega (arith, n)) (omega (arith, n)))
-          ∙ (cut_at (columns r) L (rows p r) w k (omega (arith, n))).1;
-    }
+    let w = rows_cut p r c in (
+      record { at = q; row = 0 + length L; col = columns r },
+      ap (λ x. x.place) o,
+      record {
+        row = zero-add (length L) ∙ n;
+        col = refl;
+        labels = λ k l. ap (λ x. get_or x.labs k 0) o ∙ read_first (λ r. r.0) 0 ls L k (omega (arith, n)) (omega (arith, n))
+            ∙ (cut_at (columns r) L (rows p r) w k (omega (arith, n))).0 ∙ sym (label_at (rows p r) k);
+        entries = λ k l. ap (λ x. take (columns r) (get_or x.ents k [])) o
+            ∙ ap (take (columns r)) (read_first (λ r. r.1) [] es L k (omega (arith, n)) (omega (arith, n)))
+            ∙ (cut_at (columns r) L (rows p r) w k (omega (arith, n))).1;
+      },
+    )
 
-pub made_by : (p : ℕ) (t : List ℕ) (es : List (List ℕ)) (ls : List ℕ) (v : List ℕ) (place : Place) (es' : List (List ℕ)) (ls' : List ℕ)
-    → v ≡ (vectors p).unit 0 → ((n : ℕ) → 3 * (length t - 0) + 2 < n → out es' ls' place ≡ rule_built n t p 8 v (standing es ls 0 0 1))
-    → Left p t es ls place es' ls'
-made_by p t es ls v place es' ls' e h = record {
-  is = λ r i d c. held p r es ls place es' ls' (length t)
+pub made_by : (p : ℕ) (t : List ℕ) (es : List (List ℕ)) (ls : List ℕ) (v : List ℕ) (result : Option Place) (es' : List (List ℕ)) (ls' : List ℕ)
+    → v ≡ (vectors p).unit 0 → ((n : ℕ) → 3 * (length t - 0) + 2 < n → out es' ls' result ≡ rule_built n t p 8 v (standing es ls 0 0 1))
+    → Left p t es ls result es' ls'
+made_by p t es ls v result es' ls' e h = record {
+  is = λ r i d c. held p r es ls result es' ls' (length t)
       (h (3 * length t + 3) (omega arith) ∙ ap (λ w. rule_built (3 * length t + 3) t p 8 w (standing es ls 0 0 1)) e
       ∙ whole_builds t r i d c p (3 * length t + 3) es ls (omega arith)) d c;
 }

@@ -4,22 +4,18 @@
 
 #![tactic(auto)]
 
-ghost use Rattle.std.specs.Prelude.{◌≡◌, length};
+ghost use Rattle.std.specs.Prelude.{◌≡◌, length, Ok};
 ghost use Rattle.scheme.specs.Tests.{unless, or_else};
 ghost use Rattle.scheme.specs.Refusal.{check_refusal, numbers_refusal_lem};
-ghost use Rattle.clavirost.specs.Numbers.{outcome_number_lem, ask_number_lem, joined_number, product_number_lem, threshold_number, written_number};
-ghost use Rattle.clavirost.specs.Numbers.{code_after, set_after, size_after};
+ghost use Rattle.clavirost.specs.Numbers.{answer_number, ask_number_lem, product_number_lem, threshold_number, after, set_after};
 ghost use Rattle.clavirost.specs.Told.{shape_of, DealTold, AskTold, JoinTold, ProductTold, ThresholdTold};
 ghost use Rattle.clavirost.specs.Told.{WriteTold, LineTold, RuleTold, ReadTold, PartTold};
-ghost use Rattle.clavirost.specs.Places.{places_right_lem, panel_of_lem, PanelTold, PutTold, TakeTold, CodeTold, FreshTold};
+ghost use Rattle.clavirost.specs.Places.{places_right_lem, panel_of_lem, MadeSays, PanelTold, PutTold, TakeTold, CodeTold, FreshTold};
 
 use ask::Verdict as Asked;
-use join::Joined;
 use panel::{Panel, Told};
 use product::Verdict as Product;
-use scheme::{Made, Outcome, Shape};
-use sheets::Written;
-use threshold::Verdict as Threshold;
+use scheme::{Refusal, Scheme, Shape};
 
 // Open, and yes.
 const YES: u32 = 100;
@@ -27,83 +23,75 @@ const YES: u32 = 100;
 // Closed, and no.
 const NO: u32 = 101;
 
-fn shape(p: u32, n: u32, d: usize, e: usize) -> Shape
-    ensures { result ≡ shape_of p n d e }
-{
-    Shape {
-        p: p,
-        n: n,
-        d: d,
-        e: e,
-    }
+// A scheme as C hands it over.
+macro_rules! handed {
+    ($p:expr, $n:expr, $d:expr, $e:expr, $labels:expr, $entries:expr) => {
+        Scheme {
+            shape: Shape {
+                p: $p,
+                n: $n,
+                d: $d,
+                e: $e,
+            },
+            labels: $labels,
+            entries: $entries,
+        }
+    };
 }
 
-fn outcome_number(a: Outcome) -> u32
-    ensures { result ≡ outcome_number_lem a }
+fn outcome_number(a: Result<(), Refusal>) -> u32
+    ensures { result ≡ answer_number a }
 {
     match a {
-        Outcome::Done => 0,
-        Outcome::Refused(k) => k,
+        Ok(()) => 0,
+        Err(k) => k.number(),
     }
 }
 
-fn ask_number(a: Asked) -> u32
+fn ask_number(a: Result<Asked, Refusal>) -> u32
     ensures { result ≡ ask_number_lem a }
 {
     match a {
-        Asked::Open => YES,
-        Asked::Closed => NO,
-        Asked::Refused(k) => k,
+        Ok(Asked::Open) => YES,
+        Ok(Asked::Closed) => NO,
+        Err(k) => k.number(),
     }
 }
 
-fn product_number(a: Product) -> u32
+fn product_number(a: Result<Product, Refusal>) -> u32
     ensures { result ≡ product_number_lem a }
 {
     match a {
-        Product::Yes => YES,
-        Product::No => NO,
-        Product::Refused(k) => k,
+        Ok(Product::Yes) => YES,
+        Ok(Product::No) => NO,
+        Err(k) => k.number(),
     }
 }
 
-// The number of what joining answers: the code, where there is one, is left in `code`.
-fn leave_code(a: Joined, code: &mut u32) -> u32
-    ensures { (result ≡ joined_number a) × (code.new ≡ code_after a code.old) }
+// The number of an answer that has a value where it is no refusal: the value is left in its place then.
+fn leave<T: Copy + Drop>(a: Result<T, Refusal>, place: &mut T) -> u32
+    ensures { (result ≡ answer_number a) × (place.new ≡ after a place.old) }
 {
     match a {
-        Joined::Refused(k) => k,
-        Joined::Code(c) => {
-            *code = c;
+        Ok(value) => {
+            *place = value;
             0
         }
+        Err(k) => k.number(),
     }
 }
 
 // The number of a threshold verdict: the first set that breaks it, where there is one, is left in `set`.
-fn leave_set(a: Threshold, set: &mut u32) -> u32
+fn leave_set(a: Result<Option<u32>, Refusal>, set: &mut u32) -> u32
     ensures { (result ≡ threshold_number a) × (set.new ≡ set_after a set.old) }
 {
     match a {
-        Threshold::Yes => YES,
-        Threshold::No(first) => {
+        Ok(None) => YES,
+        Ok(Some(first)) => {
             *set = first;
             NO
         }
-        Threshold::Refused(k) => k,
-    }
-}
-
-// The number of what printing answers: how many bytes it printed is left in `size`.
-fn leave_size(a: Written, size: &mut usize) -> u32
-    ensures { (result ≡ written_number a) × (size.new ≡ size_after a size.old) }
-{
-    match a {
-        Written::Refused(k) => k,
-        Written::Bytes(m) => {
-            *size = m;
-            0
-        }
+        Err(k) => k.number(),
     }
 }
 
@@ -117,9 +105,9 @@ pub extern "C" fn clavirost_check(
     labels: &[u32],
     entries: &[u32],
 ) -> u32
-    ensures { result ≡ check_refusal (shape_of p n d e) labels.now entries.now }
+    ensures { result ≡ answer_number (check_refusal (shape_of p n d e) labels.now entries.now) }
 {
-    let a = scheme::check(shape(p, n, d, e), labels, entries);
+    let a = scheme::check(handed!(p, n, d, e, labels, entries));
     outcome_number(a)
 }
 
@@ -139,7 +127,12 @@ pub extern "C" fn clavirost_deal(
     ensures { DealTold (shape_of p n d e) labels.now entries.now secret
         randoms.now shares.old result shares.new }
 {
-    let a = deal::deal(shape(p, n, d, e), labels, entries, secret, randoms, shares);
+    let a = deal::deal(
+        handed!(p, n, d, e, labels, entries),
+        secret,
+        randoms,
+        shares,
+    );
     outcome_number(a)
 }
 
@@ -159,7 +152,7 @@ pub extern "C" fn clavirost_ask(
     ensures { AskTold (shape_of p n d e) labels.now entries.now set
         r.old z.old result r.new z.new }
 {
-    let a = ask::ask(shape(p, n, d, e), labels, entries, set, r, z);
+    let a = ask::ask(handed!(p, n, d, e, labels, entries), set, r, z);
     ask_number(a)
 }
 
@@ -179,8 +172,8 @@ pub extern "C" fn clavirost_join(
     ensures { JoinTold (shape_of p n d e) labels.now entries.now set
         shares.now code.old result code.new }
 {
-    let a = join::join(shape(p, n, d, e), labels, entries, set, shares);
-    leave_code(a, code)
+    let a = join::join(handed!(p, n, d, e, labels, entries), set, shares);
+    leave(a, code)
 }
 
 // Has the scheme the product property? After the call r holds the vector where it has, w the witness where not; the other list stays.
@@ -198,7 +191,7 @@ pub extern "C" fn clavirost_product(
     ensures { ProductTold (shape_of p n d e) labels.now entries.now
         r.old w.old result r.new w.new }
 {
-    let a = product::product(shape(p, n, d, e), labels, entries, r, w);
+    let a = product::product(handed!(p, n, d, e, labels, entries), r, w);
     product_number(a)
 }
 
@@ -217,7 +210,7 @@ pub extern "C" fn clavirost_threshold(
     ensures { ThresholdTold (shape_of p n d e) labels.now entries.now t
         set.old result set.new }
 {
-    let a = threshold::threshold(shape(p, n, d, e), labels, entries, t);
+    let a = threshold::threshold(handed!(p, n, d, e, labels, entries), t);
     leave_set(a, set)
 }
 
@@ -238,12 +231,12 @@ pub extern "C" fn clavirost_rule(
 {
     let a = rule::build(p, n, text, labels, entries);
     match a {
-        Made::Refused(k) => k,
-        Made::Scheme(s) => {
+        Ok(s) => {
             *d = s.d;
             *e = s.e;
             0
         }
+        Err(k) => k.number(),
     }
 }
 
@@ -260,7 +253,7 @@ pub extern "C" fn clavirost_write(
 ) -> u32
     ensures { WriteTold (shape_of p n d e) labels.now entries.now file.old result file.new }
 {
-    let a = writing::write(shape(p, n, d, e), labels, entries, file);
+    let a = writing::write(handed!(p, n, d, e, labels, entries), file);
     outcome_number(a)
 }
 
@@ -281,8 +274,8 @@ pub extern "C" fn clavirost_read(
 {
     let a = reading::read(file, labels, entries);
     match a {
-        Made::Refused(k) => k,
-        Made::Scheme(s) => {
+        Err(k) => k.number(),
+        Ok(s) => {
             *p = s.p;
             *n = s.n;
             *d = s.d;
@@ -308,8 +301,8 @@ pub extern "C" fn clavirost_sheet_line(
     ensures { LineTold (shape_of p n d e) labels.now entries.now set out.old size.old result
         out.new size.new }
 {
-    let a = sheets::line(shape(p, n, d, e), labels, entries, set, out);
-    leave_size(a, size)
+    let a = sheets::line(handed!(p, n, d, e, labels, entries), set, out);
+    leave(a, size)
 }
 
 // Prints part k of the sheet of a file: how many bytes it has is left in `size`, 0 after the last part.
@@ -318,62 +311,35 @@ pub extern "C" fn clavirost_sheet_part(file: &[u8], k: u32, out: &mut [u8], size
     ensures { PartTold file.now k out.old size.old result out.new size.new }
 {
     let a = sheets::part(file, k, out);
-    leave_size(a, size)
+    leave(a, size)
 }
 
 fn places_right(labels: &[u32], entries: &[u32], stored: &[u32]) -> bool
     ensures { result ≡ places_right_lem labels.now entries.now stored.now }
 {
-    if labels.len() != 32 {
-        return false;
-    }
-    scheme::both_same(entries.len(), 384, stored.len(), 32)
-}
-
-// A list laid over another of the same length.
-fn copy(from: &[u32], to: &mut [u32])
-    requires { length from.now ≡ length to.old }
-    ensures { to.new ≡ from.now }
-{
-    let mut i = 0;
-    while i < from.len() {
-        to[i] = from[i];
-        i += 1;
-    }
+    labels.len() == 32 && entries.len() == 384 && stored.len() == 32
 }
 
 // A list as an array.
-fn thirty_two(from: &[u32]) -> [u32; 32]
-    requires { length from.now ≡ 32 }
+fn array<const N: usize>(from: &[u32]) -> [u32; N]
+    requires { length from.now ≡ N }
     ensures { result ≡ from.now }
 {
-    let mut own = [0u32; 32];
-    copy(from, &mut own);
-    own
-}
-
-fn all_entries(from: &[u32]) -> [u32; 384]
-    requires { length from.now ≡ 384 }
-    ensures { result ≡ from.now }
-{
-    let mut own = [0u32; 384];
-    copy(from, &mut own);
+    let mut own = [0; N];
+    own.copy_from_slice(from);
     own
 }
 
 // 5, after 1 to 4, where the lists have not the panel's places.
-fn places_refusal(s: Shape, labels: &[u32], entries: &[u32], stored: &[u32]) -> u32
+fn places_refusal(s: Shape, labels: &[u32], entries: &[u32], stored: &[u32]) -> Result<(), Refusal>
     ensures { result ≡ or_else (numbers_refusal_lem s)
-        (unless (places_right_lem labels.now entries.now stored.now) 5) }
+        (unless (places_right_lem labels.now entries.now stored.now) Refusal.Length) }
 {
-    let bad = scheme::numbers_refusal(s);
-    if bad != 0 {
-        return bad;
+    scheme::numbers_refusal(s)?;
+    if !places_right(labels, entries, stored) {
+        return Err(Refusal::Length);
     }
-    if places_right(labels, entries, stored) {
-        return 0;
-    }
-    5
+    Ok(())
 }
 
 // The panel that C hands over.
@@ -386,10 +352,10 @@ fn panel_of(s: Shape, labels: &[u32], entries: &[u32], cards: u32, stored: &[u32
         n: s.n,
         d: s.d,
         e: s.e,
-        cards: cards,
-        labels: thirty_two(labels),
-        entries: all_entries(entries),
-        stored: thirty_two(stored),
+        cards,
+        labels: array(labels),
+        entries: array(entries),
+        stored: array(stored),
     }
 }
 
@@ -400,8 +366,7 @@ fn hand_back(told: Told, cards: &mut u32, stored: &mut [u32]) -> u32
 {
     let said = told.said;
     let after = told.panel;
-    let left = after.stored;
-    copy(&left, stored);
+    stored.copy_from_slice(&after.stored);
     *cards = after.cards;
     outcome_number(said)
 }
@@ -411,12 +376,18 @@ fn hand_over(a: Panel, labels: &mut [u32], entries: &mut [u32], stored: &mut [u3
     requires { (length labels.old ≡ 32) × (length entries.old ≡ 384) × (length stored.old ≡ 32) }
     ensures { (labels.new ≡ a.labels) × (entries.new ≡ a.entries) × (stored.new ≡ a.stored) }
 {
-    let l = a.labels;
-    let m = a.entries;
-    let kept = a.stored;
-    copy(&l, labels);
-    copy(&m, entries);
-    copy(&kept, stored);
+    labels.copy_from_slice(&a.labels);
+    entries.copy_from_slice(&a.entries);
+    stored.copy_from_slice(&a.stored);
+}
+
+// A fresh panel, where the lists lent for it have its places.
+#[tactic(auto, using(crate::proofs::Handing::made_refused, crate::proofs::Handing::made_says))]
+fn made(given: Scheme<'_>, fits: bool) -> Result<Panel, Refusal>
+    ensures { MadeSays given.entry.shape given.entry.labels.now given.entry.entries.now fits result }
+{
+    given.refusal(fits)?;
+    panel::fresh(given)
 }
 
 // Makes a panel with no card: its lists are left in its places.
@@ -437,17 +408,16 @@ pub extern "C" fn clavirost_panel_new(
         panel_labels.old panel_entries.old cards.old stored.old result
         panel_labels.new panel_entries.new cards.new stored.new }
 {
-    let s = shape(p, n, d, e);
+    let given = handed!(p, n, d, e, labels, entries);
     let fits = places_right(panel_labels, panel_entries, stored);
-    let bad = scheme::refusal(s, labels, entries, fits);
-    if bad != 0 {
-        return bad;
+    match made(given, fits) {
+        Ok(a) => {
+            hand_over(a, panel_labels, panel_entries, stored);
+            *cards = 0;
+            0
+        }
+        Err(k) => k.number(),
     }
-    let made = panel::fresh(s, labels, entries);
-    let a = made.panel;
-    hand_over(a, panel_labels, panel_entries, stored);
-    *cards = 0;
-    0
 }
 
 // Puts a participant's card in.
@@ -468,10 +438,9 @@ pub extern "C" fn clavirost_panel_put(
         (panel_of_lem (shape_of p n d e) labels.now entries.now cards.old stored.old)
         who shares.now result cards.new stored.new }
 {
-    let s = shape(p, n, d, e);
-    let bad = places_refusal(s, labels, entries, stored);
-    if bad != 0 {
-        return bad;
+    let s = Shape { p, n, d, e };
+    if let Err(k) = places_refusal(s, labels, entries, stored) {
+        return k.number();
     }
     let a = panel_of(s, labels, entries, *cards, stored);
     hand_back(a.put(who, shares), cards, stored)
@@ -494,10 +463,9 @@ pub extern "C" fn clavirost_panel_take(
         (panel_of_lem (shape_of p n d e) labels.now entries.now cards.old stored.old)
         who result cards.new stored.new }
 {
-    let s = shape(p, n, d, e);
-    let bad = places_refusal(s, labels, entries, stored);
-    if bad != 0 {
-        return bad;
+    let s = Shape { p, n, d, e };
+    if let Err(k) = places_refusal(s, labels, entries, stored) {
+        return k.number();
     }
     let a = panel_of(s, labels, entries, *cards, stored);
     hand_back(a.take(who), cards, stored)
@@ -519,13 +487,10 @@ pub extern "C" fn clavirost_panel_code(
     ensures { CodeTold (panel_of_lem (shape_of p n d e) labels.now entries.now cards stored.now)
         code.old result code.new }
 {
-    let s = shape(p, n, d, e);
-    let bad = places_refusal(s, labels, entries, stored);
-    if bad != 0 {
-        return bad;
+    let s = Shape { p, n, d, e };
+    if let Err(k) = places_refusal(s, labels, entries, stored) {
+        return k.number();
     }
     let a = panel_of(s, labels, entries, cards, stored);
-    let coded = a.code();
-    let said = coded.said;
-    leave_code(said, code)
+    leave(a.code().said, code)
 }

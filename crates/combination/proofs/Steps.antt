@@ -3,14 +3,16 @@
 use mathlib.Core.Path.{◌≡◌, refl, sym, ap, ◌∙◌, subst}
 use mathlib.Core.Bool.{Bool, true, false, true≢false, false≢true}
 use mathlib.Core.List.{List, [], ◌∷◌}
-use mathlib.Core.Logic.{inl, inr, ⊎_elim}
+use mathlib.Core.Logic.{inl, ⊎_elim}
 use Prim.Native.Nat.{ℕ, suc, ◌≤◌, ◌<◌, ◌-◌, ◌*◌, ◌+◌, ◌%◌}
-use native.Mathlib.Nat.{le_refl, not-suc-le-zero, eq-or-lt_of_le, mod-eq_of_lt}
+use native.Mathlib.Nat.{le_refl, eq-or-lt_of_le, mod-eq_of_lt}
 use native.Mathlib.Numerals.{add-one}
 use native.Mathlib.Omega.{arith}
 use lib.Dec.{leb}
 use lib.ListN.{length, get_or, set, length-set}
 use lib.Seq.{get_or-set_same, get_or-set_other}
+use Rattle.std.specs.List.{between}
+use Rattle.std.proofs.lemmas.List.Edits.{get_or-between}
 use borrow.Author.Tests.{leb-true, leb-false}
 use Rattle.algebra.specs.Sum.{dot}
 use Rattle.algebra.proofs.Cases.{below_suc}
@@ -21,14 +23,13 @@ use Rattle.residue.specs.Residue.{F, res, ◌⊕◌, ◌⊗◌, neg}
 use Rattle.residue.proofs.Field.{residue_ring, residues, res_same, res_mod, res_add, res_mul, res_zero, zero_res}
 use Rattle.linear.specs.Combination.{total}
 use Rattle.linear.specs.Flat.{place, entry}
-use Rattle.linear.proofs.Carry.{res_dot, comb_up, coeffs_numbers}
+use Rattle.linear.proofs.Carry.{total_cong, res_dot, comb_up, coeffs_numbers}
 use Rattle.linear.proofs.Kept.{canon_coeffs}
 use Rattle.linear.proofs.Dual.{Dual, Down, down_start, down_turn, found, refused, up_start, up_turn, next_none, next_some, dual_cong}
 use Rattle.combination.specs.Found.{Found}
-use Rattle.combination.specs.Steps.{row, vec, Product, TakenOff, Cancelled, FirstNonzero, Cleared, Fetched, Stored}
-use Rattle.combination.specs.Steps.{DualsOf, Downed, Raised, Seeded, Separated, Made}
+use Rattle.combination.specs.Steps.{row, vec, TakenOff, Cancelled, FirstNonzero}
+use Rattle.combination.specs.Steps.{DualsOf, Downed, Raised, Seeded, Separated}
 use Rattle.lists.proofs.Store.{row_fits}
-use Rattle.combination.proofs.Laws.{first_row}
 
 -- x - r b, as the code computes it
 res_less : (p : ℕ) (H : Prime p) (x r b : ℕ) → r < p
@@ -39,41 +40,51 @@ res_less p H x r b l =
     (sym (res_mul p H (p - r) b) ∙ ap (λ (z : ℕ). ◌⊗◌ p H (res p H (p - z)) (res p H b)) (sym (mod-eq_of_lt l))
     ∙ neg_mul (residue_ring p H) (res p H r) (res p H b))
 
-module _ (p k n : ℕ) (a b x₀ : List ℕ) (r : ℕ) (f : Product p k n a x₀ r) where
+-- a vector of a table, as the code cuts it out
+pub row_at : (k n : ℕ) (a : List ℕ) (i : ℕ) → i < n → place (between (k * n) (k * n + n) a) i ≡ entry n a k i
+row_at k n a i l = get_or-between a (k * n) (k * n + n) i 0 (omega arith)
+
+-- what `dot` answers for a vector of a table
+pub row_times : (p k n : ℕ) (a x : List ℕ) (r : ℕ) → length x ≡ n
+    → r ≡ total (length x) (λ i. place (between (k * n) (k * n + n) a) i * place x i) % p
+    → r ≡ total n (λ i. entry n a k i * place x i) % p
+row_times p k n a x r len e = e ∙ ap (λ z. z % p) (rw len (total_cong n _ _ (λ i l. ap (λ z. z * place x i) (row_at k n a i l))))
+
+module _ (p k n : ℕ) (a b x₀ : List ℕ) (r : ℕ) (is : r ≡ total n (λ i. entry n a k i * place x₀ i) % p) (lt : r < p) where
   factor : (H : Prime p) → res p H r ≡ dot (residue_ring p H) n (row p H n a k) (vec p H x₀)
-  factor H = ap (res p H) f.is ∙ res_mod p H (total n (λ i. entry n a k i * place x₀ i)) ∙ res_dot p H n (entry n a k) (place x₀)
+  factor H = ap (res p H) is ∙ res_mod p H (total n (λ i. entry n a k i * place x₀ i)) ∙ res_dot p H n (entry n a k) (place x₀)
 
   pub cancelled : (x : List ℕ) → TakenOff p k n r b x₀ x → Cancelled p k n a b x₀ x r
   cancelled x o = record {
     len = o.len;
-    below = f.below;
+    below = lt;
     factor = factor;
-    rest = λ H i l. ap (res p H) (o.is i l) ∙ res_less p H (place x₀ i) r (entry n b k i) f.below;
+    rest = λ H i l. ap (res p H) (o.is i l) ∙ res_less p H (place x₀ i) r (entry n b k i) lt;
   }
 
   -- where the factor is 0 nothing is taken off
   pub cancelled_none : r ≡ 0 → length x₀ ≡ n → Cancelled p k n a b x₀ x₀ 0
   cancelled_none z len = record {
     len = len;
-    below = omega (arith, f.below);
+    below = omega arith;
     factor = λ H. ap (res p H) (sym z) ∙ factor H;
     rest = λ H i l. ring (residue_ring p H) (v 0) (v 0 :- c0 :* v 1) refl (λ j. get_or (vec p H x₀ i ∷ row p H n b k i ∷ []) j (res p H 0));
   }
 
-module _ (p n : ℕ) (t u : List ℕ) (c : ℕ) (f : FirstNonzero p n t c) (z : Cleared n u) where
+module _ (p n : ℕ) (t u : List ℕ) (c : ℕ) (f : FirstNonzero p n t c) (len : length u ≡ n) (zeros : (i : ℕ) → place u i ≡ 0) where
   pub seeded_no : n ≤ c → Seeded p n t u false
   seeded_no l = record {
-    len = z.len;
+    len = len;
     yes = λ q. absurd (false≢true q);
-    no = λ q H. ((λ i li. zero_res p H (place t i) (f.before i (omega arith))), λ i li. ap (res p H) (z.is i li));
+    no = λ q H. ((λ i li. zero_res p H (place t i) (f.before i (omega arith))), λ i li. ap (res p H) (zeros i));
   }
 
   pub seeded_yes : (b : ℕ) → c < n → b * place t c % p ≡ 1 → Seeded p n t (set u c b) true
   seeded_yes b l one = record {
-    len = length-set u c b ∙ z.len;
+    len = length-set u c b ∙ len;
     yes = λ q H. (up_start (residues p H) n (λ j. vec p H t) (λ j. vec p H t) (vec p H t) (vec p H (set u c b)) c (res p H b) l
-        (ap (res p H) (get_or-set_same u c b 0 (omega (arith, z.len))))
-        (λ i li ne. ap (res p H) (get_or-set_other u c i b 0 ne ∙ z.is i li))
+        (ap (res p H) (get_or-set_same u c b 0 (omega arith)))
+        (λ i li ne. ap (res p H) (get_or-set_other u c i b 0 ne ∙ zeros i))
         (res_mul p H b (place t c) ∙ res_same p H (b * place t c) 1 (one ∙ sym (mod-eq_of_lt H.two)))).one;
     no = λ q. absurd (true≢false q);
   }
@@ -123,19 +134,12 @@ module _ (p m n : ℕ) (vectors duals : List ℕ) where
       let e : k ≡ suc (k - 1) = omega arith in
       downed_step t₀ c₀ t c x (k - 1) r D room (subst (Downed p m n vectors duals t₀ c₀ t c) e h)
 
-  pub downed_end : (t₀ c₀ t c : List ℕ) (k : ℕ) → Downed p m n vectors duals t₀ c₀ t c k → k ≤ 0
-      → Downed p m n vectors duals t₀ c₀ t c 0
-  downed_end t₀ c₀ t c k h l = let e : k ≡ 0 = omega arith in subst (Downed p m n vectors duals t₀ c₀ t c) e h
-
   -- only the places of t₀ count
   target_is : (t₀ c₀ t c : List ℕ) (s : ℕ → ℕ) → ((i : ℕ) → i < n → place t₀ i ≡ s i) → Downed p m n vectors duals t₀ c₀ t c 0
       → (H : Prime p) → Down (residues p H) n (w H) (y H) m (λ i. res p H (s i)) (vec p H t) (vec p H c) 0
   target_is t₀ c₀ t c s e h H =
       let d = h.is H in
       record { gone = d.gone; sums = λ i l. d.sums i l ∙ ap (res p H) (e i l); only = d.only }
-
-  pub raised_start : (u : List ℕ) → length u ≡ n → Raised p m n vectors duals u u 0
-  raised_start u e = record { upto = omega arith; len = e; is = λ H t g h. record { kills = λ j l. absurd (not-suc-le-zero l); one = h } }
 
   pub raised_turn : (u₀ u x : List ℕ) (k r : ℕ) → DualsOf p m n vectors duals → k < m → Raised p m n vectors duals u₀ u k
       → Cancelled p k n vectors duals u x r → Raised p m n vectors duals u₀ x (k + 1)
@@ -147,29 +151,23 @@ module _ (p m n : ℕ) (vectors duals : List ℕ) where
         (D.is H) lk g (h.is H t g one) (l.factor H) (l.rest H));
   }
 
-  pub raised_end : (u₀ u : List ℕ) (k : ℕ) → Raised p m n vectors duals u₀ u k → m ≤ k → Raised p m n vectors duals u₀ u m
-  raised_end u₀ u k h l = let e : k ≡ m = omega (arith, h.upto) in subst (Raised p m n vectors duals u₀ u) e h
-
   pub separated_no : (t u : List ℕ) (r : Bool) → Seeded p n t u r → r ≡ false → Separated p m n vectors duals t u
   separated_no t u r h q = record { len = h.len; is = λ H. inl (h.no q H) }
 
-  pub separated_yes : (t u x : List ℕ) (r : Bool) → Seeded p n t u r → r ≡ true → Raised p m n vectors duals u x m
-      → Separated p m n vectors duals t x
-  separated_yes t u x r h q l = record { len = l.len; is = λ H. inr (λ g. l.is H (vec p H t) g (h.yes q H)) }
-
   -- The dual of vector m: t₀ is the vector, t what `down` leaves of it, u what separates t, and u is stored as the next dual.
-  pub duals_next : (duals' t₀ c₀ t c u : List ℕ) → DualsOf p m n vectors duals → Fetched m n vectors t₀
-      → Downed p m n vectors duals t₀ c₀ t c 0 → Separated p m n vectors duals t u → Stored m n u duals duals'
+  pub duals_next : (duals' t₀ c₀ t c u : List ℕ) → DualsOf p m n vectors duals → ((i : ℕ) → i < n → place t₀ i ≡ entry n vectors m i)
+      → Downed p m n vectors duals t₀ c₀ t c 0 → Separated p m n vectors duals t u
+      → ((i : ℕ) → i < n → entry n duals' m i ≡ place u i) → ((j : ℕ) → j < m * n → place duals' j ≡ place duals j)
       → DualsOf p (m + 1) n vectors duals'
-  duals_next duals' t₀ c₀ t c u D e d s z = record {
+  duals_next duals' t₀ c₀ t c u D e d s here before = record {
     is = λ H. rw (add-one m) (below_suc (λ k. Dual (residues p H) n (w H) (row p H n duals') k (row p H n duals' k)) m
         (λ k l. dual_cong (residues p H) n (w H) (y H) k (y H k) (row p H n duals' k)
-        (λ i li. ap (res p H) (z.before (k * n + i) (omega (arith, row_fits k m n l)))) (D.is H k l))
-        (dual_cong (residues p H) n (w H) (y H) m (vec p H u) (row p H n duals' m) (λ i li. ap (res p H) (z.is i li)) (next H)));
+        (λ i li. ap (res p H) (before (k * n + i) (omega (arith, row_fits k m n l)))) (D.is H k l))
+        (dual_cong (residues p H) n (w H) (y H) m (vec p H u) (row p H n duals' m) (λ i li. ap (res p H) (here i li)) (next H)));
   }
     where
       down : (H : Prime p) → Down (residues p H) n (w H) (y H) m (w H m) (vec p H t) (vec p H c) 0
-      down = target_is t₀ c₀ t c (entry n vectors m) e.is d
+      down = target_is t₀ c₀ t c (entry n vectors m) e d
 
       next : (H : Prime p) → Dual (residues p H) n (w H) (y H) m (vec p H u)
       next H = ⊎_elim
@@ -179,7 +177,7 @@ module _ (p m n : ℕ) (vectors duals : List ℕ) where
           (s.is H)
 
   -- The answer: i is the first place that is not 0 of what `down` leaves of the target.
-  pub answered : (target t₀ c₀ t c : List ℕ) (i : ℕ) → Prime p → DualsOf p m n vectors duals → Fetched 0 n target t₀
+  pub answered : (target t₀ c₀ t c : List ℕ) (i : ℕ) → Prime p → DualsOf p m n vectors duals → t₀ ≡ target
       → Downed p m n vectors duals t₀ c₀ t c 0 → FirstNonzero p n t i → Found p m n vectors target (leb n i) c
   answered target t₀ c₀ t c i H D e d f = record {
     yes = λ q. coeffs_numbers p H n (entry n vectors) m (place target) (place c) (λ k l. d.below k (omega arith) l)
@@ -197,29 +195,4 @@ module _ (p m n : ℕ) (vectors duals : List ℕ) where
   }
     where
       down : Down (residues p H) n (w H) (y H) m (vec p H target) (vec p H t) (vec p H c) 0
-      down = target_is t₀ c₀ t c (place target) (λ j l. e.is j l ∙ ap (place target) (first_row n j)) d H
-
--- The loop of `make_duals`: duals₀ and c₀ are its lists at the start.
-module _ (p n : ℕ) (vectors duals₀ c₀ : List ℕ) where
-  pub made_start : (t u : List ℕ) → length t ≡ n → length u ≡ n → Made p 0 n vectors duals₀ duals₀ c₀ t u c₀
-  made_start t u et eu = record {
-    duals_size = refl;
-    t_len = et;
-    u_len = eu;
-    c_size = refl;
-    is = record { is = λ H k l. absurd (not-suc-le-zero l) };
-  }
-
-  pub made_turn : (k m : ℕ) (duals₁ t₁ u₁ c₁ duals t u c : List ℕ) → Made p k n vectors duals₁ duals₀ c₀ t₁ u₁ c₁
-      → Made p m n vectors duals duals₁ c₁ t u c → Made p m n vectors duals duals₀ c₀ t u c
-  made_turn k m duals₁ t₁ u₁ c₁ duals t u c h g = record {
-    duals_size = g.duals_size ∙ h.duals_size;
-    t_len = g.t_len;
-    u_len = g.u_len;
-    c_size = g.c_size ∙ h.c_size;
-    is = g.is;
-  }
-
-  pub made_end : (k m : ℕ) (duals t u c : List ℕ) → Made p k n vectors duals duals₀ c₀ t u c → k ≡ m
-      → Made p m n vectors duals duals₀ c₀ t u c
-  made_end k m duals t u c h e = subst (λ (k : ℕ). Made p k n vectors duals duals₀ c₀ t u c) e h
+      down = target_is t₀ c₀ t c (place target) (λ j l. ap (λ (l : List ℕ). place l j) e) d H

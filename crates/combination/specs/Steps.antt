@@ -7,7 +7,6 @@ use Rattle.algebra.specs.Sum.{dot}
 use Rattle.residue.specs.Prime.{Prime}
 use Rattle.residue.specs.Residue.{F, res, ◌⊕◌, ◌⊗◌, neg}
 use Rattle.residue.proofs.Field.{residue_ring, residues}
-use Rattle.linear.specs.Combination.{total}
 use Rattle.linear.specs.Flat.{place, entry}
 use Rattle.linear.proofs.Dual.{Duals, Down, Up}
 
@@ -23,11 +22,6 @@ vec p H l i = res p H (place l i)
 abbrev pub Zero : (p : ℕ) → Prime p → ℕ → List ℕ → Type 0
 Zero p H n l = (i : ℕ) → i < n → vec p H l i ≡ res p H 0
 
--- r is vector k of a times x.
-pub record Product (p k n : ℕ) (a x : List ℕ) (r : ℕ) : Type 0 where
-  pub is : r ≡ total n (λ i. entry n a k i * place x i) % p
-  pub below : r < p
-
 -- x is x₀ less f times vector k of b.
 pub record TakenOff (p k n f : ℕ) (b x₀ x : List ℕ) : Type 0 where
   pub len : length x ≡ n
@@ -38,22 +32,6 @@ pub record FirstNonzero (p n : ℕ) (x : List ℕ) (r : ℕ) : Type 0 where
   pub within : r ≤ n
   pub before : (i : ℕ) → i < r → place x i % p ≡ 0
   pub here : r < n → place x r % p ≡ 0 → ⊥
-
--- x is 0.
-pub record Cleared (n : ℕ) (x : List ℕ) : Type 0 where
-  pub len : length x ≡ n
-  pub is : (i : ℕ) → i < n → place x i ≡ 0
-
--- x is vector k of a.
-pub record Fetched (k n : ℕ) (a x : List ℕ) : Type 0 where
-  pub len : length x ≡ n
-  pub is : (i : ℕ) → i < n → place x i ≡ entry n a k i
-
--- Vector k of a is x, and the vectors before it are those of a₀.
-pub record Stored (k n : ℕ) (x a₀ a : List ℕ) : Type 0 where
-  pub size : length a ≡ length a₀
-  pub is : (i : ℕ) → i < n → entry n a k i ≡ place x i
-  pub before : (j : ℕ) → j < k * n → place a j ≡ place a₀ j
 
 -- x is x₀ less r times vector k of b, now as residues, where r is vector k of a times x₀.
 pub record Cancelled (p k n : ℕ) (a b x₀ x : List ℕ) (r : ℕ) : Type 0 where

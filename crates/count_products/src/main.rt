@@ -4,23 +4,25 @@
 
 #![tactic(auto)]
 
-ghost use Rattle.std.specs.Prelude.{◌≤◌};
-
-use scheme::Shape;
+use scheme::{Scheme, Shape};
 use std::io;
-use std::io::{BufWriter, Write};
 
 const LABELS: [u32; 3] = [1, 2, 3];
 
 // 5 to the 6.
 const MATRICES: u32 = 15625;
 
-fn shape() -> Shape {
-    Shape {
+fn scheme(entries: &[u32; 6]) -> Scheme<'_> {
+    let shape = Shape {
         p: 5,
         n: 3,
         d: 3,
         e: 2,
+    };
+    Scheme {
+        shape,
+        labels: &LABELS,
+        entries,
     }
 }
 
@@ -39,48 +41,26 @@ fn matrix(m: u32) -> [u32; 6] {
 fn has_product(entries: &[u32; 6]) -> bool {
     let mut r = [0u32; 3];
     let mut w = [0u32; 3];
-    let a = product::product(shape(), &LABELS, entries, &mut r, &mut w);
-    match a {
-        product::Verdict::Yes => true,
-        _ => false,
-    }
+    product::product(scheme(entries), &mut r, &mut w) == Ok(product::Verdict::Yes)
 }
 
 fn any_two_of_three(entries: &[u32; 6]) -> bool {
-    let a = threshold::threshold(shape(), &LABELS, entries, 1);
-    match a {
-        threshold::Verdict::Yes => true,
-        _ => false,
-    }
-}
-
-fn one_if(b: bool) -> u32
-    ensures { result ≤ 1 }
-{
-    if b {
-        return 1;
-    }
-    0
+    threshold::threshold(scheme(entries), 1) == Ok(None)
 }
 
 fn main(rt: HostRuntime) -> io::Result<()> {
-    let mut products: u32 = 0;
-    let mut both: u32 = 0;
-    let mut m: u32 = 0;
-    while m < MATRICES {
+    let mut products = 0u32;
+    let mut both = 0u32;
+    for m in 0..MATRICES {
         let entries = matrix(m);
-        let yes = one_if(has_product(&entries));
-        products += yes;
-        both += yes * one_if(any_two_of_three(&entries));
-        m += 1;
+        if has_product(&entries) {
+            products += 1;
+            if any_two_of_three(&entries) {
+                both += 1;
+            }
+        }
     }
-    let mut to = BufWriter::new(rt.alloc(), io::writer(&rt))?;
-    show::text(&mut to, b"matrices")?;
-    show::number(&mut to, MATRICES)?;
-    show::text(&mut to, b"\nproduct yes")?;
-    show::number(&mut to, products)?;
-    show::text(&mut to, b"\nalso threshold 1 yes")?;
-    show::number(&mut to, both)?;
-    show::text(&mut to, b"\n")?;
-    to.flush()
+    println!(rt; "matrices {MATRICES}")?;
+    println!(rt; "product yes {products}")?;
+    println!(rt; "also threshold 1 yes {both}")
 }

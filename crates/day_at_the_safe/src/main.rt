@@ -4,9 +4,8 @@
 
 #![tactic(auto)]
 
-use join::Joined;
 use panel::{Panel, Told};
-use scheme::Shape;
+use scheme::{Scheme, Shape};
 use std::io;
 use std::io::{BufWriter, Write};
 
@@ -15,39 +14,23 @@ const LABELS: [u32; 5] = [1, 2, 3, 4, 5];
 
 const ENTRIES: [u32; 15] = [1, 1, 1, 1, 2, 4, 1, 3, 9, 1, 4, 16, 1, 5, 8];
 
-fn opened(to: &mut impl Write, x: u32) -> io::Result<()> {
-    show::text(to, b" OK")?;
-    show::number(to, x)
-}
-
-fn joined(to: &mut impl Write, a: Joined) -> io::Result<()> {
-    match a {
-        Joined::Code(x) => opened(to, x),
-        Joined::Refused(k) => show::refused(to, k),
-    }
-}
-
 // The cards that are in, as a set, and all 32 places for shares, of which S uses five.
 fn state(to: &mut impl Write, a: Panel) -> io::Result<Panel> {
-    let stored = a.stored;
     show::number(to, a.cards)?;
-    show::list(to, &stored)?;
+    show::list(to, &a.stored)?;
     show::text(to, b"\n")?;
     Ok(a)
 }
 
 fn told(to: &mut impl Write, t: Told) -> io::Result<Panel> {
-    let said = t.said;
-    let panel = t.panel;
-    show::outcome(to, said)?;
-    state(to, panel)
+    show::outcome(to, t.said)?;
+    state(to, t.panel)
 }
 
 fn put(to: &mut impl Write, a: Panel, who: u32, share: u32) -> io::Result<Panel> {
-    let shares = [share];
     show::text(to, b"put")?;
     show::number(to, who)?;
-    told(to, a.put(who, &shares))
+    told(to, a.put(who, &[share]))
 }
 
 fn take(to: &mut impl Write, a: Panel, who: u32) -> io::Result<Panel> {
@@ -59,26 +42,36 @@ fn take(to: &mut impl Write, a: Panel, who: u32) -> io::Result<Panel> {
 fn code(to: &mut impl Write, a: Panel) -> io::Result<Panel> {
     show::text(to, b"code")?;
     let c = a.code();
-    let said = c.said;
-    let panel = c.panel;
-    joined(to, said)?;
+    show::code(to, c.said)?;
     show::text(to, b"\n")?;
-    Ok(panel)
+    Ok(c.panel)
 }
 
-fn fresh(to: &mut impl Write) -> io::Result<Panel> {
-    let s = Shape {
+// The fresh panel, or none where it is refused; the day ends there.
+fn fresh(to: &mut impl Write) -> io::Result<Option<Panel>> {
+    let shape = Shape {
         p: 17,
         n: 5,
         d: 5,
         e: 3,
     };
+    let scheme = Scheme {
+        shape,
+        labels: &LABELS,
+        entries: &ENTRIES,
+    };
     show::text(to, b"fresh")?;
-    let a = panel::fresh(s, &LABELS, &ENTRIES);
-    let said = a.said;
-    let panel = a.panel;
-    show::outcome(to, said)?;
-    state(to, panel)
+    match panel::fresh(scheme) {
+        Ok(a) => {
+            show::text(to, b" OK")?;
+            Ok(Some(state(to, a)?))
+        }
+        Err(why) => {
+            show::refused(to, why)?;
+            show::text(to, b"\n")?;
+            Ok(None)
+        }
+    }
 }
 
 // Nobody; one card; the same card twice; a card that is not in; a participant outside 1 to 5; a share that is none.
@@ -115,9 +108,10 @@ fn evening(to: &mut impl Write, a: Panel) -> io::Result<Panel> {
 
 fn main(rt: HostRuntime) -> io::Result<()> {
     let mut to = BufWriter::new(rt.alloc(), io::writer(&rt))?;
-    let a = fresh(&mut to)?;
-    let b = morning(&mut to, a)?;
-    let c = noon(&mut to, b)?;
-    evening(&mut to, c)?;
+    if let Some(a) = fresh(&mut to)? {
+        let b = morning(&mut to, a)?;
+        let c = noon(&mut to, b)?;
+        evening(&mut to, c)?;
+    }
     to.flush()
 }

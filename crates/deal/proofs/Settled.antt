@@ -4,10 +4,11 @@ use mathlib.Core.Path.{◌≡◌, sym, ◌∙◌}
 use mathlib.Core.List.{List}
 use Prim.Native.Nat.{ℕ}
 use Rattle.scheme.specs.declared.Shape.{Shape}
-use Rattle.scheme.specs.declared.Outcome.{Outcome}
+use Rattle.scheme.specs.declared.Refusal.{Refusal}
+use Rattle.std.specs.Prelude.{Result}
 use Rattle.deal.specs.Says.{DealSays}
 
-pub settled : (s : Shape) (labels entries : List ℕ) (secret : ℕ) (randoms shares : List ℕ) (a a' : Outcome) (left left' : List ℕ)
+pub settled : (s : Shape) (labels entries : List ℕ) (secret : ℕ) (randoms shares : List ℕ) (a a' : Result Unit Refusal) (left left' : List ℕ)
     → DealSays s labels entries secret randoms shares a left → DealSays s labels entries secret randoms shares a' left'
     → (a ≡ a') × (left ≡ left')
 settled s labels entries secret randoms shares a a' left left' x y = (x.answer ∙ sym y.answer, x.left ∙ sym y.left)

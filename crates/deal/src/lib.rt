@@ -2,93 +2,75 @@
 
 #![tactic(auto)]
 
-ghost use Rattle.std.specs.Prelude.{◌≡◌, ◌&&◌, ◌∷◌, ◌<◌, ◌≤◌, ◌+◌, ◌*◌, ltb, length};
+ghost use Rattle.std.specs.Prelude.{◌≡◌, ◌∷◌, ◌<◌, ◌+◌, length, IfOk};
 ghost use Rattle.linear.specs.Flat.{place};
 ghost use Rattle.scheme.specs.Dealing.{share_of, shares_of};
-ghost use Rattle.scheme.specs.Tests.{each_below, unless};
+ghost use Rattle.scheme.specs.Tests.{refused};
+ghost use Rattle.scheme.specs.Checked.{IsOf};
 ghost use Rattle.scheme.specs.Refusal.{deal_refusal_lem};
 ghost use Rattle.deal.specs.Says.{DealSays};
 
-use scheme::{Outcome, Shape};
+use residue::Modulus;
+use scheme::{Checked, Refusal, Scheme};
 
 // Row k times the list of the secret and the random numbers, modulo p.
-fn share(s: Shape, k: usize, entries: &[u32], secret: u32, randoms: &[u32]) -> u32
-    requires { (0 < s.p) × (s.d ≤ 32) × (s.e ≤ 12) × (k < s.d)
-        × (length entries.now ≡ s.d * s.e) × (length randoms.now + 1 ≡ s.e) }
-    ensures { result ≡ share_of s entries.now (place (secret ∷ randoms.now)) k }
+fn share(scheme: Checked<'_>, k: usize, secret: u32, randoms: &[u32]) -> u32
+    requires { (k < scheme.shape.d) × (length randoms.now + 1 ≡ scheme.shape.e) }
+    ensures { result ≡ share_of scheme.entry.shape scheme.entry.entries.now (place (secret ∷ randoms.now)) k }
 {
-    let e = s.e;
-    let at = k * e;
-    let mut acc = residue::mul(s.p, entries[at], secret);
-    let mut j = 1;
-    while j < e {
-        acc = residue::mul_add(s.p, acc, entries[at + j], randoms[j - 1]);
-        j += 1;
+    let s = scheme.shape;
+    let m = Modulus::new(s.p);
+    let at = k * s.e;
+    let mut acc = m.mul(scheme.entries[at], secret);
+    for (x, y) in scheme.entries[at + 1..at + s.e].iter().zip(randoms) {
+        acc = m.mul_add(acc, *x, *y);
     }
     acc
 }
 
 // The shares of a dealing, one a row.
-fn fill(s: Shape, entries: &[u32], secret: u32, randoms: &[u32], shares: &mut [u32])
-    requires { (0 < s.p) × (s.d ≤ 32) × (s.e ≤ 12)
-        × (length entries.now ≡ s.d * s.e) × (length randoms.now + 1 ≡ s.e) × (length shares.old ≡ s.d) }
-    ensures { shares.new ≡ shares_of s entries.now secret randoms.now }
+#[tactic(auto, using(linear::proofs::Flat::filled_list), unfolding(scheme::specs::Dealing::shares_of))]
+fn fill(scheme: Checked<'_>, secret: u32, randoms: &[u32], shares: &mut [u32])
+    requires { (length randoms.now + 1 ≡ scheme.shape.e) × (length shares.old ≡ scheme.shape.d) }
+    ensures { shares.new ≡ shares_of scheme.entry.shape scheme.entry.entries.now secret randoms.now }
 {
-    let mut k = 0;
-    while k < shares.len() {
-        shares[k] = share(s, k, entries, secret, randoms);
-        k += 1;
+    for (k, x) in shares.iter_mut().enumerate() {
+        *x = share(scheme, k, secret, randoms);
     }
 }
 
-// Refusal 9 for a secret or a random number that is not below p.
-fn range_refusal(p: u32, secret: u32, randoms: &[u32]) -> u32
-    ensures { result ≡ unless (ltb secret p && each_below p randoms.now) 9 }
-{
-    if secret >= p {
-        return 9;
-    }
-    if !scheme::all_below(p, randoms) {
-        return 9;
-    }
-    0
-}
-
-fn deal_refusal(
-    s: Shape,
-    labels: &[u32],
-    entries: &[u32],
+// The scheme, where nothing is refused.
+#[tactic(auto, using(scheme::proofs::Refusals::refusal_more))]
+fn admitted<'a>(
+    scheme: Scheme<'a>,
     secret: u32,
     randoms: &[u32],
     places: usize,
-) -> u32
-    ensures { result ≡ deal_refusal_lem s labels.now entries.now secret randoms.now places }
+) -> Result<Checked<'a>, Refusal>
+    ensures refusal { refused result ≡ deal_refusal_lem scheme.entry.shape scheme.entry.labels.now scheme.entry.entries.now secret randoms.now places }
+    ensures same { IfOk result (IsOf scheme.entry.shape scheme.entry.labels.now scheme.entry.entries.now) }
+    ensures lengths { IfOk result (λ c. (length randoms.now + 1 ≡ c.shape.e) × (places ≡ c.shape.d)) }
 {
-    let fits = scheme::both_same(randoms.len() + 1, s.e, places, s.d);
-    let bad = scheme::refusal(s, labels, entries, fits);
-    if bad != 0 {
-        return bad;
+    let s = scheme.shape;
+    let checked = scheme.checked(randoms.len() + 1 == s.e && places == s.d)?;
+    if secret >= s.p || !scheme::all_below(s.p, randoms) {
+        return Err(Refusal::NotBelowP);
     }
-    range_refusal(s.p, secret, randoms)
+    Ok(checked)
 }
 
 // Deals a secret. Wrong answers that the contract rules out: done with shares that leave out the last random number; a secret that is p
 // itself taken.
 pub fn deal(
-    s: Shape,
-    labels: &[u32],
-    entries: &[u32],
+    scheme: Scheme<'_>,
     secret: u32,
     randoms: &[u32],
     shares: &mut [u32],
-) -> Outcome
-    ensures { DealSays s labels.now entries.now secret randoms.now shares.old
+) -> Result<(), Refusal>
+    ensures { DealSays scheme.entry.shape scheme.entry.labels.now scheme.entry.entries.now secret randoms.now shares.old
         result shares.new }
 {
-    let bad = deal_refusal(s, labels, entries, secret, randoms, shares.len());
-    if bad != 0 {
-        return Outcome::Refused(bad);
-    }
-    fill(s, entries, secret, randoms, shares);
-    Outcome::Done
+    let checked = admitted(scheme, secret, randoms, shares.len())?;
+    fill(checked, secret, randoms, shares);
+    Ok(())
 }

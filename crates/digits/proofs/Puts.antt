@@ -2,12 +2,13 @@
 -- Assumes nothing.
 use mathlib.Core.Path.{◌≡◌, refl, sym, ap, ◌∙◌}
 use mathlib.Core.List.{List, [], ◌∷◌, ◌++◌}
-use Prim.Native.Nat.{ℕ, suc, ◌+◌, ◌<◌, ◌≤◌}
+use Prim.Native.Nat.{ℕ, suc, ◌+◌, ◌≤◌}
 use native.Mathlib.Nat.{zero-add, add-zero, add-suc, suc-add}
-use native.Mathlib.Numerals.{add-one}
 use native.Mathlib.Omega.{arith}
-use lib.ListN.{length, get_or, set, take, drop, length-append}
-use lib.Seq.{sets, sets-eq, length-sets, take-suc, take-length, length-take-le}
+use lib.ListN.{length, set, drop, length-append}
+use lib.Seq.{sets, sets-eq, length-sets}
+use borrow.Rule.Slice.PartMut.{put_mid}
+use Rattle.std.proofs.lemmas.Grind.{common_steps}
 use Rattle.digits.specs.Put.{Put}
 
 sets_append : (b : List ℕ) (at : ℕ) (xs ys : List ℕ) → sets b at (xs ++ ys) ≡ sets (sets b at xs) (at + length xs) ys
@@ -41,12 +42,7 @@ pub put_before : (b : List ℕ) (at : ℕ) (t : List ℕ) (x : ℕ) {a : List �
     → Put b at t end a → Put b at (t ++ (x ∷ [])) (end + 1) (set a end x)
 put_before b at t x h = put_put b at t (x ∷ []) h (refl, refl)
 
--- A loop that copies a text byte by byte: a turn, and its end.
-pub copied_turn : (b : List ℕ) (at : ℕ) (t : List ℕ) (i : ℕ) (a : List ℕ) → i < length t
-    → a ≡ sets b at (take i t) → set a (at + i) (get_or t i 0) ≡ sets b at (take (i + 1) t)
-copied_turn b at t i a l h =
-    rw (h, add-one i, take-suc t i 0 l, sets_append b at (take i t) (get_or t i 0 ∷ []), length-take-le i t (omega arith))
-
-pub copied_end : (b : List ℕ) (at : ℕ) (t : List ℕ) (i : ℕ) (a : List ℕ) → i ≡ length t
-    → a ≡ sets b at (take i t) → Put b at t (at + length t) a
-copied_end b at t i a e h = (refl, h ∙ ap (sets b at) (ap (λ (k : ℕ). take k t) e ∙ take-length t))
+-- A part of a list that is a text now.
+pub put_part : (b : List ℕ) (at : ℕ) (t ys : List ℕ) (w : ℕ) → ys ≡ t → w ≡ length t → at + length t ≤ length b
+    → put_mid at w b ys ≡ sets b at t
+put_part b at t ys w e q l = grind (arith, common_steps, sets-eq)

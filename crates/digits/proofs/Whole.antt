@@ -1,10 +1,9 @@
 -- Signed numbers of 64 bits that are distances below 2 ^ 32 from zero; residues nearest to zero, and their texts.
 -- Assumes nothing.
-use mathlib.Core.Path.{◌≡◌, refl, sym, ap, subst, ◌∙◌}
+use mathlib.Core.Path.{◌≡◌, refl, ap, subst, ◌∙◌}
 use mathlib.Core.Bool.{Bool, true, false}
 use mathlib.Core.List.{◌∷◌}
 use Prim.Native.Nat.{ℕ, ◌*◌, ◌-◌, ◌<◌, ◌≤◌}
-use native.Mathlib.Nat.{zero-add}
 use native.Mathlib.Omega.{arith}
 use lib.Dec.{T, leb}
 use lib.IntN.{ℤ, pos, negsuc, nat_abs, ◌-ℤ◌}
@@ -30,29 +29,9 @@ near_low p v h k l = rw (le-leb (2 * v) p (omega arith)) (word v (omega arith))
 pub near_high : (p v : ℕ) → v < p → p < 4294967296 → p - v < v → to_z w64 (of_z w64 (to_z w64 v -ℤ to_z w64 p)) ≡ nearest p v
 near_high p v h k l = rw (lt-leb (2 * v) p (omega arith), to_z-of_z w64 _ (sub_fits v p h k), word v (omega arith), word p k)
 
-minus : (z : ℤ) → lt_z z (pos 0) ≡ true → pos 0 -ℤ z ≡ pos (nat_abs z)
-minus (pos n) e = absurd (omega (arith, ltb-true n 0 e))
-minus (negsuc n) e = rw zero-add
-
-pub not_below_zero : (z : ℤ) → lt_z z (pos 0) ≡ false → z ≡ pos (nat_abs z)
-not_below_zero (pos n) e = refl
-not_below_zero (negsuc n) e = absurd (subst T e tt)
-
 -- A signed number that is passed on or tested stands as its own bits read again.
 pub tested : (z : ℤ) (b : Bool) → SFits w64 z → lt_z (to_z w64 (of_z w64 z)) (pos 0) ≡ b → lt_z z (pos 0) ≡ b
 tested z b f e = rw (to_z-of_z w64 z f) at e
-
--- The distance of a number below zero, as the code takes it.
-pub minus_fits : (z : ℤ) → SFits w64 z → lt_z (to_z w64 (of_z w64 z)) (pos 0) ≡ true → nat_abs z < 4294967296
-    → SFits w64 (pos 0 -ℤ to_z w64 (of_z w64 z))
-minus_fits z f e h = rw (to_z-of_z w64 z f, minus z (tested z true f e)) (record { sfits = omega arith })
-
-pub minus_is : (z : ℤ) → SFits w64 z → lt_z (to_z w64 (of_z w64 z)) (pos 0) ≡ true → nat_abs z < 4294967296
-    → to_z w64 (of_z w64 (pos 0 -ℤ to_z w64 (of_z w64 z))) ≡ pos (nat_abs z)
-minus_is z f e h = rw (to_z-of_z w64 z f, minus z (tested z true f e)) (word (nat_abs z) h)
-
-pub plus_is : (z : ℤ) → SFits w64 z → lt_z (to_z w64 (of_z w64 z)) (pos 0) ≡ false → to_z w64 (of_z w64 z) ≡ pos (nat_abs z)
-plus_is z f e = to_z-of_z w64 z f ∙ not_below_zero z (tested z false f e)
 
 -- The text of a whole number: a sign below zero, and the digits of its distance.
 text_below_zero : (z : ℤ) → lt_z z (pos 0) ≡ true → whole_text z ≡ 45 ∷ decimal (nat_abs z)
@@ -65,14 +44,14 @@ unfolding whole_text
 text_not_below_zero (pos n) e = refl
 text_not_below_zero (negsuc n) e = absurd (subst T e tt)
 
--- The same from what `distance` and `below_zero` answer.
-pub signed_text : (z : ℤ) (m : ℕ) (r : Bool) → SFits w64 z → m ≡ nat_abs (to_z w64 (of_z w64 z)) → r ≡ lt_z (to_z w64 (of_z w64 z)) (pos 0)
-    → r ≡ true → whole_text z ≡ 45 ∷ decimal m
-signed_text z m r f e s t = text_below_zero z (tested z true f (sym s ∙ t)) ∙ rw (e, to_z-of_z w64 z f)
+-- The same from what the code tests.
+pub signed_text : (z : ℤ) (m : ℕ) → SFits w64 z → m ≡ nat_abs (to_z w64 (of_z w64 z)) → lt_z (to_z w64 (of_z w64 z)) (pos 0) ≡ true
+    → whole_text z ≡ 45 ∷ decimal m
+signed_text z m f e t = text_below_zero z (tested z true f t) ∙ rw (e, to_z-of_z w64 z f)
 
-pub plain_text : (z : ℤ) (m : ℕ) (r : Bool) → SFits w64 z → m ≡ nat_abs (to_z w64 (of_z w64 z)) → r ≡ lt_z (to_z w64 (of_z w64 z)) (pos 0)
-    → r ≡ false → whole_text z ≡ decimal m
-plain_text z m r f e s t = text_not_below_zero z (tested z false f (sym s ∙ t)) ∙ rw (e, to_z-of_z w64 z f)
+pub plain_text : (z : ℤ) (m : ℕ) → SFits w64 z → m ≡ nat_abs (to_z w64 (of_z w64 z)) → lt_z (to_z w64 (of_z w64 z)) (pos 0) ≡ false
+    → whole_text z ≡ decimal m
+plain_text z m f e t = text_not_below_zero z (tested z false f t) ∙ rw (e, to_z-of_z w64 z f)
 
 -- A residue nearest to zero fits a word of 64 bits, and so stays what it is when it is passed on.
 near_fits : (p v : ℕ) (b : Bool) → leb (2 * v) p ≡ b → v < p → p < 65536 → SFits w64 (nearest p v)

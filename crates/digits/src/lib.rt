@@ -1,9 +1,9 @@
-// Numbers and byte strings printed into a lent list of bytes, each from a place on that the caller names: inner steps of what prints.
+// Numbers and byte strings printed into a lent list of bytes, each from a place on that the caller names: inner steps of what prints. They are
+// written out, since document 01 asks for these texts to the byte and its definitions (specs/Digits) say which bytes.
 
 #![tactic(auto)]
 
-ghost use Rattle.std.specs.Prelude.{◌≡◌, ◌+◌, ◌<◌, ◌≤◌, pos, nat_abs, length};
-ghost use Rattle.std.specs.Int.Signed.{lt_z};
+ghost use Rattle.std.specs.Prelude.{◌≡◌, ◌+◌, ◌<◌, ◌≤◌, nat_abs, length};
 ghost use Rattle.digits.specs.Digits.{decimal, nearest, whole_text};
 ghost use Rattle.digits.specs.Put.{Put};
 
@@ -12,12 +12,9 @@ pub fn put_text(out: &mut [u8], at: usize, text: &[u8]) -> usize
     requires { at + length text.now ≤ length out.old }
     ensures { Put out.old at text.now result out.new }
 {
-    let mut i = 0;
-    while i < text.len() {
-        out[at + i] = text[i];
-        i += 1;
-    }
-    at + text.len()
+    let end = at + text.len();
+    out[at..end].copy_from_slice(text);
+    end
 }
 
 // The digits of n.
@@ -29,7 +26,7 @@ fn put_decimal(out: &mut [u8], at: usize, n: u32) -> usize
         out[at] = 48 + n as u8;
         return at + 1;
     }
-    let last = put_decimal(&mut *out, at, n / 10);
+    let last = put_decimal(out, at, n / 10);
     out[last] = 48 + (n % 10) as u8;
     last + 1
 }
@@ -54,21 +51,12 @@ fn near(p: u32, v: u32) -> i64
     (v as i64) - (p as i64)
 }
 
-fn below_zero(z: i64) -> bool
-    ensures { result ≡ lt_z z (pos 0) }
-{
-    z < 0
-}
-
 // The distance from zero.
 fn distance(z: i64) -> u32
     requires { nat_abs z < 4294967296 }
     ensures { result ≡ nat_abs z }
 {
-    if z < 0 {
-        return (0 - z) as u32;
-    }
-    z as u32
+    z.unsigned_abs() as u32
 }
 
 // A whole number, with its sign where it is below zero.
@@ -77,7 +65,7 @@ fn put_whole(out: &mut [u8], at: usize, z: i64) -> usize
     ensures { Put out.old at (whole_text z) result out.new }
 {
     let m = distance(z);
-    if below_zero(z) {
+    if z < 0 {
         out[at] = 45;
         return put_decimal(out, at + 1, m);
     }

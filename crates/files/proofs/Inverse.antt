@@ -1,20 +1,18 @@
 -- "a scheme file reads back as the scheme written": what `write` leaves and what `read` answers, joined from their contracts alone.
 -- Assumes nothing.
+use Rattle.std.specs.Prelude.{Result, Ok, Err}
 use mathlib.Core.Path.{◌≡◌, sym, ap, ap₂, ◌∙◌, subst}
 use mathlib.Core.List.{List}
 use Prim.Native.Nat.{ℕ, ◌<◌, ◌*◌}
-use native.Mathlib.Omega.{arith}
 use lib.ListN.{length, take}
 use borrow.Author.Tests.{eq-eqb}
 use Rattle.linear.specs.Flat.{place}
 use Rattle.linear.proofs.Flat.{list_length}
 use Rattle.scheme.specs.declared.Shape.{Shape}
-use Rattle.scheme.specs.declared.Made.{Made}
-use Rattle.scheme.specs.declared.Made.TheVariants.{Scheme, Refused}
-use Rattle.scheme.specs.declared.Outcome.{Outcome}
-use Rattle.scheme.specs.declared.Outcome.TheVariants.{Done}
-use Rattle.scheme.specs.Outcome.{outcome_at, left_at, over}
+use Rattle.scheme.specs.declared.Refusal.{Refusal}
+use Rattle.scheme.specs.Outcome.{left_at, over}
 use Rattle.scheme.specs.Refusal.{refusal_of, IsScheme}
+use Rattle.scheme.proofs.Outcomes.{not_both}
 use Rattle.scheme.proofs.Over.{take_over}
 use Rattle.format.specs.Format.{file_of, blocks}
 use Rattle.format.specs.Writing.{write_refusal_lem}
@@ -26,41 +24,41 @@ use Rattle.writing.specs.Says.{WriteSays}
 use Rattle.reading.specs.Says.{ReadSays}
 
 -- The file of a scheme is read as that scheme, and never refused.
-file_reads : (s : Shape) (labels entries : List ℕ) → IsScheme s labels entries → (l e : List ℕ) → length l ≡ 32 → length e ≡ 384 → (m : Made)
-    (l' e' : List ℕ) → ReadSays (file_of 1 s labels entries) l e m l' e' → (m ≡ Scheme s) × (l' ≡ over labels l) × (e' ≡ over entries e)
+file_reads : (s : Shape) (labels entries : List ℕ) → IsScheme s labels entries → (l e : List ℕ) → length l ≡ 32 → length e ≡ 384 → (m : Result Shape Refusal)
+    (l' e' : List ℕ) → ReadSays (file_of 1 s labels entries) l e m l' e' → (m ≡ Ok s) × (l' ≡ over labels l) × (e' ≡ over entries e)
 unfolding ReadSays
-file_reads s labels entries scheme l e ll le (Scheme t) l' e' x =
+file_reads s labels entries scheme l e ll le (Ok t) l' e' x =
     let b = read_back s labels entries scheme in
     let q : t ≡ s = x.1 ∙ b.1 in (
-      ap Scheme q,
+      ap Ok q,
       x.2 ∙ ap (λ (u : Shape). over (labels_at 1 (file_of 1 s labels entries) u.d) l) q ∙ ap (λ z. over z l) b.2,
       x.3 ∙ ap (λ (u : Shape). over (entries_at 1 (file_of 1 s labels entries) u.d u.e) e) q ∙ ap (λ z. over z e) b.3,
     )
-file_reads s labels entries scheme l e ll le (Refused k) l' e' x =
+file_reads s labels entries scheme l e ll le (Err k) l' e' x =
     let none = ap₂ (λ (i j : ℕ). read_refusal1 (file_of 1 s labels entries) i j) ll le ∙ (read_back s labels entries scheme).0 in
-    absurd (omega (arith, x.0, x.1, none))
+    absurd (not_both k none x.0)
 
 -- A scheme, with a list of the file's length, is written.
 module _ (s : Shape) (labels entries file : List ℕ) (scheme : IsScheme s labels entries) (room : length file ≡ 512 * blocks 1 s.d)
-    (a : Outcome) (file' : List ℕ) (w : WriteSays s labels entries file a file') where
-  free : write_refusal_lem 1 s labels entries (length file) ≡ 0
-  free = ap (λ b. refusal_of s labels entries b 0) (eq-eqb (length file) (512 * blocks 1 s.d) room) ∙ scheme
+    (a : Result Unit Refusal) (file' : List ℕ) (w : WriteSays s labels entries file a file') where
+  free : write_refusal_lem 1 s labels entries (length file) ≡ Ok tt
+  free = ap (λ b. refusal_of s labels entries b (Ok tt)) (eq-eqb (length file) (512 * blocks 1 s.d) room) ∙ scheme
 
-  pub scheme_written : (a ≡ Done) × (file' ≡ file_of 1 s labels entries)
+  pub scheme_written : (a ≡ Ok tt) × (file' ≡ file_of 1 s labels entries)
   scheme_written = (
-    w.answer ∙ ap outcome_at free,
-    w.left ∙ ap (λ (k : ℕ). left_at k file (file_of 1 s labels entries)) free,
+    w.answer ∙ free,
+    w.left ∙ ap (λ (k : Result Unit Refusal). left_at k file (file_of 1 s labels entries)) free,
   )
 
   -- And read it comes back the same; reading never refuses it.
-  pub written_reads : (l e : List ℕ) → length l ≡ 32 → length e ≡ 384 → (m : Made) (l' e' : List ℕ) → ReadSays file' l e m l' e'
-      → (m ≡ Scheme s) × (l' ≡ over labels l) × (e' ≡ over entries e)
+  pub written_reads : (l e : List ℕ) → length l ≡ 32 → length e ≡ 384 → (m : Result Shape Refusal) (l' e' : List ℕ) → ReadSays file' l e m l' e'
+      → (m ≡ Ok s) × (l' ≡ over labels l) × (e' ≡ over entries e)
   written_reads l e ll le m l' e' r = file_reads s labels entries scheme l e ll le m l' e' (subst (λ f. ReadSays f l e m l' e') scheme_written.1 r)
 
 -- A file that reads without refusal is byte for byte the file that writing its scheme gives, and writing never refuses that scheme.
-pub read_writes : (file l e : List ℕ) → ((i : ℕ) → place file i < 256) → (s : Shape) (l' e' : List ℕ) → ReadSays file l e (Scheme s) l' e'
-    → (f : List ℕ) → length f ≡ length file → (a : Outcome) (f' : List ℕ)
-    → WriteSays s (take s.d l') (take (s.d * s.e) e') f a f' → (a ≡ Done) × (f' ≡ file)
+pub read_writes : (file l e : List ℕ) → ((i : ℕ) → place file i < 256) → (s : Shape) (l' e' : List ℕ) → ReadSays file l e (Ok s) l' e'
+    → (f : List ℕ) → length f ≡ length file → (a : Result Unit Refusal) (f' : List ℕ)
+    → WriteSays s (take s.d l') (take (s.d * s.e) e') f a f' → (a ≡ Ok tt) × (f' ≡ file)
 unfolding ReadSays
 read_writes file l e bytes s l' e' x f n a f' w =
     let again = written_again file (length l) (length e) bytes x.0 in

@@ -1,5 +1,6 @@
 -- A file of bytes that reading does not refuse says a scheme, and is the file of that scheme: written again it is the same.
 -- Assumes nothing.
+use Rattle.std.specs.Prelude.{Ok}
 use mathlib.Core.Path.{◌≡◌, refl, sym, ap, ap₂, subst⁻¹, ◌∙◌}
 use mathlib.Core.Bool.{Bool, true, false, ◌&&◌, ◌||◌}
 use mathlib.Core.Logic.{⊎_elim}
@@ -18,9 +19,8 @@ use Rattle.linear.specs.Flat.{place, entry}
 use Rattle.linear.proofs.Flat.{list_length, list_at}
 use Rattle.linear.proofs.Carry.{total_cong}
 use Rattle.scheme.specs.declared.Shape.{Shape}
-use Rattle.scheme.specs.Tests.{unless, or_else}
 use Rattle.scheme.specs.Refusal.{IsScheme, refusal_of, numbers_refusal_lem, content_refusal_lem}
-use Rattle.scheme.proofs.Refusals.{and-true, or_else_zero}
+use Rattle.scheme.proofs.Refusals.{and-true, or_else_ok, unless_ok}
 use Rattle.format.specs.Format.{byte_of_lem, number_of, width, size, records, blocks, mark, kind_of, row_of, in_record, used}
 use Rattle.format.specs.Format.{heading_byte_lem, record_byte_lem, content_byte_lem, front_byte_lem, check_of_lem, block_byte, file_of}
 use Rattle.format.specs.Reading.{all_below, byte_at, check_right_lem, marks_right_lem, shape_at, record_at, labels_at, entries_at}
@@ -52,24 +52,6 @@ module _ (v : ℕ) (s : Shape) (labels entries : List ℕ) (b : ℕ) (f : ℕ �
       at : (o q : ℕ) → o ≡ q → f q ≡ front_byte_lem v s labels entries b q → f o ≡ front_byte_lem v s labels entries b o
       at o q e h = subst⁻¹ (λ (i : ℕ). f i ≡ front_byte_lem v s labels entries b i) e h
 
-passed : (test : Bool) (k rest : ℕ) → or_else (unless test (suc k)) rest ≡ 0 → (test ≡ true) × (rest ≡ 0)
-passed true k rest h = (refl, h)
-passed false k rest h = absurd (omega arith)
-
--- Tests in the order in which reading makes them.
-tests_passed : (places whole checks marks rest : Bool) (numbers lists : ℕ)
-    → or_else (unless places 5) (or_else (unless whole 17) (or_else (unless checks 18) (or_else (unless marks 19) (or_else numbers
-    (or_else (unless rest 20) lists))))) ≡ 0
-    → (whole ≡ true) × (checks ≡ true) × (marks ≡ true) × (numbers ≡ 0) × (rest ≡ true) × (lists ≡ 0)
-tests_passed places whole checks marks rest numbers lists h =
-    let a = passed places 4 _ h in
-    let b = passed whole 16 _ a.1 in
-    let c = passed checks 17 _ b.1 in
-    let d = passed marks 18 _ c.1 in
-    let e = or_else_zero numbers _ d.1 in
-    let f = passed rest 19 lists e.1 in
-    (b.0, c.0, d.0, e.0, f.0, f.1)
-
 module _ (v : ℕ) (file : List ℕ) where
   abbrev s : Shape
   s = shape_at v file
@@ -85,16 +67,26 @@ module _ (v : ℕ) (file : List ℕ) where
     pub whole : length_right_lem ≡ true
     pub checks : all_below (block_count v file) (check_right_lem v file) ≡ true
     pub marks : all_below (block_count v file) (marks_right_lem v file) ≡ true
-    pub numbers : numbers_refusal_lem s ≡ 0
+    pub numbers : numbers_refusal_lem s ≡ Ok tt
     pub rest : rest_right_lem v file s ≡ true
-    pub lists : content_refusal_lem s.p s.n labels entries ≡ 0
+    pub lists : content_refusal_lem s.p s.n labels entries ≡ Ok tt
 
-  pub read : (length_right_lem : Bool) (m n : ℕ) → read_refusal v file length_right_lem m n ≡ 0 → Read length_right_lem
+  pub read : (length_right_lem : Bool) (m n : ℕ) → read_refusal v file length_right_lem m n ≡ Ok tt → Read length_right_lem
   read length_right_lem m n h =
-      let t = tests_passed (eqb m 32 && eqb n 384) length_right_lem (all_below (block_count v file) (check_right_lem v file))
-      (all_below (block_count v file) (marks_right_lem v file)) (rest_right_lem v file s) (numbers_refusal_lem s)
-      (content_refusal_lem s.p s.n labels entries) h in
-      record { whole = t.0; checks = t.1; marks = t.2; numbers = t.3; rest = t.4; lists = t.5 }
+      let a = or_else_ok _ _ h in
+      let b = or_else_ok _ _ a.1 in
+      let c = or_else_ok _ _ b.1 in
+      let d = or_else_ok _ _ c.1 in
+      let e = or_else_ok _ _ d.1 in
+      let f = or_else_ok _ _ e.1 in
+      record {
+        whole = unless_ok _ _ b.0;
+        checks = unless_ok _ _ c.0;
+        marks = unless_ok _ _ d.0;
+        numbers = e.0;
+        rest = unless_ok _ _ f.0;
+        lists = f.1;
+      }
 
   -- The lists have their lengths, so all tests of a scheme have been made.
   pub says_scheme : (length_right_lem : Bool) → Read length_right_lem → IsScheme s labels entries
@@ -235,7 +227,7 @@ whole_blocks n h = go (eqb n 1024) refl h
     go true q h = omega (arith, eqb-true n 1024 q)
     go false q h = omega (arith, eqb-true n 1536 h)
 
-pub written_again : (file : List ℕ) (m n : ℕ) → ((i : ℕ) → place file i < 256) → read_refusal1 file m n ≡ 0
+pub written_again : (file : List ℕ) (m n : ℕ) → ((i : ℕ) → place file i < 256) → read_refusal1 file m n ≡ Ok tt
     → IsScheme (shape_at 1 file) (labels_at 1 file (shape_at 1 file).d) (entries_at 1 file (shape_at 1 file).d (shape_at 1 file).e)
     × (file ≡ file_of 1 (shape_at 1 file) (labels_at 1 file (shape_at 1 file).d) (entries_at 1 file (shape_at 1 file).d (shape_at 1 file).e))
 written_again file m n bytes h =

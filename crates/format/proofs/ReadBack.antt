@@ -1,5 +1,6 @@
 -- The file of a scheme is read back: nothing of it is refused, and it says the scheme.
 -- Assumes nothing.
+use Rattle.std.specs.Prelude.{Result, Ok}
 use mathlib.Core.Path.{◌≡◌, refl, sym, ap, ap₂, ◌∙◌}
 use mathlib.Core.Bool.{Bool, true, false, ◌&&◌, ◌||◌}
 use mathlib.Core.Logic.{⊎_elim}
@@ -8,21 +9,21 @@ use Prim.Native.Nat.{ℕ, suc, ◌<◌, ◌≤◌, ◌+◌, ◌-◌, ◌*◌, �
 use native.Mathlib.Nat.{div-add-mod', div-lt_iff_lt-mul, mul-le-mul, le_refl}
 use native.Mathlib.Numerals.{one-add}
 use native.Mathlib.Omega.{arith}
-use lib.Dec.{eqb, ltb, ltb→lt}
+use lib.Dec.{eqb}
 use lib.ListN.{length, get_or}
 use lib.Seq.{ext_get_or}
 use borrow.Author.Tests.{eq-eqb}
 use Rattle.algebra.proofs.Cases.{lt_or_ge}
-use Rattle.residue.specs.Moduli.{moduli, is_modulus_lem}
-use Rattle.residue.proofs.Moduli.{all_lift}
 use Rattle.linear.specs.Combination.{total}
 use Rattle.linear.specs.Flat.{place, entry, list_of}
 use Rattle.linear.proofs.Flat.{list_length, list_at}
 use Rattle.linear.proofs.Carry.{total_cong}
 use Rattle.scheme.specs.declared.Shape.{Shape}
+use Rattle.scheme.specs.declared.Refusal.{Refusal}
+use Rattle.scheme.specs.declared.Refusal.TheVariants as R
 use Rattle.scheme.specs.Tests.{unless, or_else}
 use Rattle.scheme.specs.Refusal.{IsScheme, numbers_refusal_lem, content_refusal_lem}
-use Rattle.scheme.proofs.Refusals.{Valid, valid, parts, numbers}
+use Rattle.scheme.proofs.Refusals.{Valid, valid, parts}
 use Rattle.format.specs.Format.{byte_of_lem, number_of, width, size, records, blocks, mark, kind_of, used}
 use Rattle.format.specs.Format.{record_byte_lem, content_byte_lem, front_byte_lem, check_of_lem, heading_byte_lem, file_of}
 use Rattle.format.specs.Reading.{byte_at, check_right_lem, marks_right_lem, shape_at, record_at, labels_at, entries_at}
@@ -155,27 +156,23 @@ module _ (v : ℕ) (s : Shape) (labels entries : List ℕ) (lv : 1 ≤ v) (uv : 
       (λ j. used v s.d s.e b j || eqb (byte_at v file b (8 + j)) 0) (λ j u. zero_read b j (omega (arith, count_read)) u)))
 
   -- All of it: no number applies.
-  abbrev content_said : Shape → ℕ
+  abbrev content_said : Shape → Result Unit Refusal
   content_said q = content_refusal_lem q.p q.n (labels_at v file q.d) (entries_at v file q.d q.e)
 
-  pub nothing_refused : (length_right_lem : Bool) → length_right_lem ≡ true → numbers_refusal_lem s ≡ 0 → content_refusal_lem s.p s.n labels entries ≡ 0
-      → read_refusal v file length_right_lem 32 384 ≡ 0
+  pub nothing_refused : (length_right_lem : Bool) → length_right_lem ≡ true → numbers_refusal_lem s ≡ Ok tt
+      → content_refusal_lem s.p s.n labels entries ≡ Ok tt → read_refusal v file length_right_lem 32 384 ≡ Ok tt
   nothing_refused length_right_lem right first lists =
-      ap₂ or_else (ap (λ t. unless t 17) right)
-      (ap₂ or_else (ap (λ t. unless t 18) (all_holds (block_count v file) (check_right_lem v file) (λ b l. check_read b (omega (arith, count_read)))))
-      (ap₂ or_else (ap (λ t. unless t 19) (all_holds (block_count v file) (marks_right_lem v file) (λ b l. marks_read b (omega (arith, count_read)))))
+      ap₂ or_else (ap (λ t. unless t R.FileLength) right)
+      (ap₂ or_else (ap (λ t. unless t R.BlockCheck) (all_holds (block_count v file) (check_right_lem v file) (λ b l. check_read b (omega (arith, count_read)))))
+      (ap₂ or_else (ap (λ t. unless t R.BlockMark) (all_holds (block_count v file) (marks_right_lem v file) (λ b l. marks_read b (omega (arith, count_read)))))
       (ap₂ or_else (ap numbers_refusal_lem shape_read ∙ first)
-      (ap₂ or_else (ap (λ t. unless t 20) (ap (rest_right_lem v file) shape_read ∙ rest_read))
+      (ap₂ or_else (ap (λ t. unless t R.FileRest) (ap (rest_right_lem v file) shape_read ∙ rest_read))
       (ap content_said shape_read ∙ ap₂ (content_refusal_lem s.p s.n) labels_read entries_read ∙ lists)))))
 
 -- Either way round.
 or_true : (a : Bool) → (a || true) ≡ true
 or_true true = refl
 or_true false = refl
-
--- Version 1: each modulus has two bytes.
-pub modulus_below : (p : ℕ) → is_modulus_lem p ≡ true → p < 65536
-modulus_below p h = ltb→lt p 65536 (all_lift (λ q. ltb q 65536) p moduli tt h)
 
 -- "1,024 or 1,536 bytes"
 pub length_right_holds : (n d : ℕ) → 1 ≤ d → d ≤ 32 → n ≡ 512 * blocks 1 d → (eqb n 1024 || eqb n 1536) ≡ true
@@ -185,12 +182,12 @@ length_right_holds n d l u e = ⊎_elim
     (lt_or_ge d 21)
 
 module _ (s : Shape) (labels entries : List ℕ) (h : IsScheme s labels entries) where
-  pub read_back : (read_refusal1 (file_of 1 s labels entries) 32 384 ≡ 0) × (shape_at 1 (file_of 1 s labels entries) ≡ s)
+  pub read_back : (read_refusal1 (file_of 1 s labels entries) 32 384 ≡ Ok tt) × (shape_at 1 (file_of 1 s labels entries) ≡ s)
       × (labels_at 1 (file_of 1 s labels entries) s.d ≡ labels) × (entries_at 1 (file_of 1 s labels entries) s.d s.e ≡ entries)
   read_back =
-      let t = parts s labels entries true 0 h in
+      let t = parts s labels entries true (Ok tt) h in
       let k = valid s labels entries true h in
-      let lp : s.p < 256 ^ width 1 = modulus_below s.p (numbers s t.first).modulus in
+      let lp : s.p < 256 ^ width 1 = k.p_high in
       let lv : 1 ≤ 1 = omega arith in
       let uv : 1 ≤ 20 = omega arith in (
         nothing_refused 1 s labels entries lv uv lp k (eqb (length (file_of 1 s labels entries)) 1024

@@ -1,9 +1,11 @@
 -- Document 01, "Scheme files" and "Refusal numbers": what a file of bytes says, and why it is refused. All is said for files of version v.
 -- Assumes nothing.
-use Rattle.std.specs.Prelude.{Bool, true, ◌&&◌, ◌||◌, List, ℕ, zero, suc, ◌+◌, ◌*◌, ◌/◌, ◌%◌, eqb, length}
+use Rattle.std.specs.Prelude.{Bool, true, ◌&&◌, ◌||◌, List, ℕ, zero, suc, ◌+◌, ◌*◌, ◌/◌, ◌%◌, eqb, length, Result}
 use Rattle.linear.specs.Combination.{total}
 use Rattle.linear.specs.Flat.{place, list_of}
 use Rattle.scheme.specs.declared.Shape.{Shape}
+use Rattle.scheme.specs.declared.Refusal.{Refusal}
+use Rattle.scheme.specs.declared.Refusal.TheVariants as R
 use Rattle.scheme.specs.Tests.{unless, or_else}
 use Rattle.scheme.specs.Refusal.{numbers_refusal_lem, content_refusal_lem}
 use Rattle.format.specs.Format.{number_of, width, size, records, blocks, mark, kind_of, used}
@@ -62,16 +64,16 @@ module _ (v : ℕ) (file : List ℕ) where
 
   -- "reading a file tries 5, 17, 18, 19, 1, 2, 3, 4, 20, 6, 7": each number on every block before the next number is tried. 5: "32 label
   -- places and 384 entry places"; 17: the length is none of those named.
-  abbrev pub read_refusal : Bool → ℕ → ℕ → ℕ
+  abbrev pub read_refusal : Bool → ℕ → ℕ → Result Unit Refusal
   read_refusal length_right_lem labelPlaces entryPlaces =
-      or_else (unless (eqb labelPlaces 32 && eqb entryPlaces 384) 5)
-      (or_else (unless length_right_lem 17)
-      (or_else (unless (all_below block_count check_right_lem) 18)
-      (or_else (unless (all_below block_count marks_right_lem) 19)
+      or_else (unless (eqb labelPlaces 32 && eqb entryPlaces 384) R.Length)
+      (or_else (unless length_right_lem R.FileLength)
+      (or_else (unless (all_below block_count check_right_lem) R.BlockCheck)
+      (or_else (unless (all_below block_count marks_right_lem) R.BlockMark)
       (or_else (numbers_refusal_lem shape_at)
-      (or_else (unless (rest_right_lem shape_at) 20)
+      (or_else (unless (rest_right_lem shape_at) R.FileRest)
       (content_refusal_lem shape_at.p shape_at.n (labels_at shape_at.d) (entries_at shape_at.d shape_at.e)))))))
 
 -- Version 1. 17: "file not 1,024 or 1,536 bytes".
-abbrev pub read_refusal1 : List ℕ → ℕ → ℕ → ℕ
+abbrev pub read_refusal1 : List ℕ → ℕ → ℕ → Result Unit Refusal
 read_refusal1 file = read_refusal 1 file (eqb (length file) 1024 || eqb (length file) 1536)

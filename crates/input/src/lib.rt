@@ -14,6 +14,7 @@ pub fn read_full<R: Read>(from: &mut R, space: &mut [u8]) -> io::Result<usize>
     ensures bytes { IfOk result (λ n. Consumes (R.remaining from.old) (R.remaining from.new) (take n space.new)) }
     ensures end { IfOk result (λ n. n < length space.new → IsAtEnd (R.remaining from.new)) }
 {
+    // No `for`: the place moves on by as many bytes as a read gives.
     let mut n = 0;
     while n < space.len() {
         let got = from.read(&mut space[n..])?;

@@ -1,10 +1,10 @@
--- What the one question for the columns over the chosen rows says of the shares; the working space of `fits`.
+-- What the one question for the columns over the chosen rows says of the shares.
 -- Assumes nothing.
 use mathlib.Core.Path.{◌≡◌, refl, sym, ap, ◌∙◌}
 use mathlib.Core.Bool.{Bool, true, false, cond}
 use mathlib.Core.List.{List}
-use Prim.Native.Nat.{ℕ, ◌+◌, ◌*◌, ◌%◌, ◌<◌, ◌≤◌}
-use native.Mathlib.Nat.{mul_comm, mul-le-mul, mul-add-mod_self_right, mod-eq_of_lt}
+use Prim.Native.Nat.{ℕ, ◌+◌, ◌*◌, ◌%◌, ◌<◌}
+use native.Mathlib.Nat.{mul_comm, mul-add-mod_self_right, mod-eq_of_lt}
 use native.Mathlib.Omega.{arith}
 use lib.ListN.{length}
 use Rattle.lists.proofs.Store.{row_fits}
@@ -55,7 +55,3 @@ module _ (p d e chosen : ℕ) (entries shares all columns goal : List ℕ) (wide
         (place c, λ k l w. ap (λ (x : ℕ). x % p) (at_row (place c) k l w) ∙ (f.yes q).gives k l ∙ ap (λ (x : ℕ). x % p) (goal_row k l w));
     no = λ q b. (f.no q).none (b.0, gives b.0 b.1);
   }
-
--- The working space.
-pub area : (d e : ℕ) → d ≤ 32 → e ≤ 12 → e * d ≤ 384
-area d e ld le = mul-le-mul {n₁ = e} {m₁ = d} {n₂ = 12} {m₂ = 32} le ld

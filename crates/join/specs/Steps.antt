@@ -1,12 +1,12 @@
 -- What the steps of joining leave. No public contract cites this file.
 -- Assumes nothing.
-use Rattle.std.specs.Prelude.{◌≡◌, Bool, true, false, cond, List, ◌⊎◌, ℕ, ◌<◌, ◌*◌, ◌%◌, length}
+use Rattle.std.specs.Prelude.{◌≡◌, Bool, true, false, cond, List, ◌⊎◌, ℕ, ◌<◌, ◌*◌, ◌%◌, length, Result, Ok, Err}
 use Rattle.linear.specs.Combination.{total}
 use Rattle.linear.specs.Flat.{place, entry}
 use Rattle.linear.specs.Rows.{Open, Closed, OpeningVector}
 use Rattle.linear.specs.Bits.{bit}
-use Rattle.join.specs.declared.Joined.{Joined}
-use Rattle.join.specs.declared.Joined.TheVariants.{Code, Refused}
+use Rattle.scheme.specs.declared.Refusal.{Refusal}
+use Rattle.scheme.specs.declared.Refusal.TheVariants.{SetClosed, NoDealing}
 
 -- x holds the list's numbers at the chosen rows, and 0 at the others; place i is of row i % d.
 pub record MaskedTo (d : ℕ) (chosen : ℕ → Bool) (list x : List ℕ) : Type 0 where
@@ -23,10 +23,10 @@ pub record FitsSays (p d e chosen : ℕ) (entries shares : List ℕ) (r : Bool) 
   pub no : r ≡ false → FitsRows p d e (entry e entries) (bit chosen) (place shares) → ⊥
 
 -- What joining the chosen rows answers.
-unfoldable pub RowsSay : (p d e chosen : ℕ) → List ℕ → List ℕ → Joined → Type 0
-RowsSay p d e chosen entries shares (Code c) =
+unfoldable pub RowsSay : (p d e chosen : ℕ) → List ℕ → List ℕ → Result ℕ Refusal → Type 0
+RowsSay p d e chosen entries shares (Ok c) =
     FitsRows p d e (entry e entries) (bit chosen) (place shares)
     × ((r : ℕ → ℕ) × OpeningVector p d e (entry e entries) (bit chosen) r × (c ≡ total d (λ k. r k * place shares k) % p))
-RowsSay p d e chosen entries shares (Refused k) =
-    ((k ≡ 11) × Closed p d e (entry e entries) (bit chosen))
-    ⊎ ((k ≡ 12) × Open p d e (entry e entries) (bit chosen) × (FitsRows p d e (entry e entries) (bit chosen) (place shares) → ⊥))
+RowsSay p d e chosen entries shares (Err k) =
+    ((k ≡ SetClosed) × Closed p d e (entry e entries) (bit chosen))
+    ⊎ ((k ≡ NoDealing) × Open p d e (entry e entries) (bit chosen) × (FitsRows p d e (entry e entries) (bit chosen) (place shares) → ⊥))

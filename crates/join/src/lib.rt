@@ -2,40 +2,31 @@
 
 #![tactic(auto)]
 
-ghost use Rattle.std.specs.Prelude.{◌≡◌, cond, ℕ, ◌<◌, ◌≤◌, ◌*◌, ◌%◌, length, get_or};
-ghost use Rattle.residue.specs.Prime.{Prime};
-ghost use Rattle.linear.specs.Combination.{total};
-ghost use Rattle.linear.specs.Flat.{place};
+ghost use Rattle.std.specs.Prelude.{◌≡◌, cond, ◌<◌, ◌≤◌, length, IfOk};
 ghost use Rattle.linear.specs.Bits.{bit};
+ghost use Rattle.scheme.specs.Tests.{refused};
+ghost use Rattle.scheme.specs.Checked.{IsOf};
 ghost use Rattle.scheme.specs.Refusal.{join_refusal_lem};
 ghost use Rattle.join.specs.Says.{JoinSays};
 ghost use Rattle.join.specs.Steps.{MaskedTo, FitsSays, RowsSay};
 
-use scheme::Shape;
+use residue::Modulus;
+use scheme::{Checked, Refusal, Scheme, Shape};
 
-// The code, or a refusal with the paper's number.
-#[derive(Drop)]
-pub enum Joined {
-    Code(u32),
-    Refused(u32),
-}
-
-fn join_refusal(s: Shape, labels: &[u32], entries: &[u32], set: u32, shares: &[u32]) -> u32
-    ensures { result ≡ join_refusal_lem s labels.now entries.now set shares.now }
+// The scheme, where refusals 1 to 9 are not given.
+#[tactic(auto, using(scheme::proofs::Refusals::refusal_more))]
+fn admitted<'a>(scheme: Scheme<'a>, set: u32, shares: &[u32]) -> Result<Checked<'a>, Refusal>
+    ensures refusal { refused result ≡ join_refusal_lem scheme.entry.shape scheme.entry.labels.now scheme.entry.entries.now set shares.now }
+    ensures same { IfOk result (IsOf scheme.entry.shape scheme.entry.labels.now scheme.entry.entries.now) }
+    ensures lengths { IfOk result (λ c. length shares.now ≡ c.shape.d) }
 {
-    let fits = shares.len() == s.d;
-    let bad = scheme::refusal(s, labels, entries, fits);
-    if bad != 0 {
-        return bad;
+    let s = scheme.shape;
+    let checked = scheme.checked(shares.len() == s.d)?;
+    sets::set_refusal(s.n, set)?;
+    if !sets::read_below(s.p, set, checked.labels, shares) {
+        return Err(Refusal::NotBelowP);
     }
-    let outside = sets::set_refusal(s.n, set);
-    if outside != 0 {
-        return outside;
-    }
-    if !sets::read_below(s.p, set, labels, shares) {
-        return 9;
-    }
-    0
+    Ok(checked)
 }
 
 // x where row k is chosen, else 0.
@@ -54,142 +45,57 @@ fn mask(d: usize, chosen: u32, list: &[u32], x: &mut [u32])
     requires { (0 < d) × (d ≤ 32) × (length x.old ≡ length list.now) }
     ensures { MaskedTo d (bit chosen) list.now x.new }
 {
-    let mut i = 0;
-    while i < x.len() {
-        x[i] = where_chosen(chosen, i % d, list[i]);
-        i += 1;
+    for (i, y) in x.iter_mut().enumerate() {
+        *y = where_chosen(chosen, i % d, list[i]);
     }
 }
 
-// r times shares, modulo p.
-fn weighted(p: u32, r: &[u32], shares: &[u32]) -> u32
-    requires { (0 < p) × (length r.now ≡ length shares.now) }
-    ensures { result ≡ total (length shares.now) (λ k. place r.now k * place shares.now k) % p }
+// Whether some list b gives the shares at the chosen rows: the one question for the columns, with the shares as target. `duals` first holds
+// the columns over all rows.
+fn fits(scheme: Checked<'_>, chosen: u32, shares: &[u32]) -> bool
+    requires { length shares.now ≡ scheme.shape.d }
+    ensures { FitsSays scheme.entry.shape.p scheme.entry.shape.d scheme.entry.shape.e chosen scheme.entry.entries.now shares.now result }
 {
-    let mut acc: u32 = 0;
-    let mut k = 0;
-    while k < shares.len() {
-        acc = residue::mul_add(p, acc, r[k], shares[k]);
-        k += 1;
-    }
-    acc
-}
-
-// `fits` with its working space lent; `duals` first holds the columns over all rows.
-fn fits_in(
-    p: u32,
-    d: usize,
-    e: usize,
-    chosen: u32,
-    entries: &[u32],
-    shares: &[u32],
-    columns: &mut [u32],
-    goal: &mut [u32],
-    duals: &mut [u32],
-    t: &mut [u32],
-    u: &mut [u32],
-    c: &mut [u32],
-) -> bool
-    requires prime { Prime p }
-    requires le_d { (1 ≤ d) × (d ≤ 32) × (length entries.now ≡ d * e) × (length shares.now ≡ d) × (length columns.old ≡ e * d)
-        × (length goal.old ≡ d) × (length duals.old ≡ e * d) × (length t.old ≡ d) × (length u.old ≡ d) × (length c.old ≡ e) }
-    ensures { FitsSays p d e chosen entries.now shares.now result }
-{
-    tables::turn(d, e, entries, duals);
+    let Shape { p, d, e, .. } = scheme.shape;
+    let n = e * d;
+    let columns = &mut [0u32; 384][..n];
+    let goal = &mut [0u32; 32][..d];
+    let duals = &mut [0u32; 384][..n];
+    let t = &mut [0u32; 32][..d];
+    let u = &mut [0u32; 32][..d];
+    let c = &mut [0u32; 32][..e];
+    tables::turn(d, e, scheme.entries, duals);
     mask(d, chosen, duals, columns);
     mask(d, chosen, shares, goal);
     combination::find(p, e, d, columns, goal, duals, t, u, c)
 }
 
-fn table() -> [u32; 384]
-    ensures { length result ≡ 384 }
+// Joins the shares at the chosen rows.
+#[tactic(auto, using(crate::proofs::Says::rows_closed, crate::proofs::Says::rows_wrong, crate::proofs::Says::rows_code, crate::proofs::Says::opens_length))]
+fn join_rows(scheme: Checked<'_>, chosen: u32, shares: &[u32]) -> Result<u32, Refusal>
+    requires { length shares.now ≡ scheme.shape.d }
+    ensures { RowsSay scheme.entry.shape.p scheme.entry.shape.d scheme.entry.shape.e chosen scheme.entry.entries.now shares.now result }
 {
-    [0u32; 384]
-}
-
-fn line() -> [u32; 32]
-    ensures { length result ≡ 32 }
-{
-    [0u32; 32]
-}
-
-// Whether some list b gives the shares at the chosen rows: the one question for the columns, with the shares as target.
-fn fits(p: u32, d: usize, e: usize, chosen: u32, entries: &[u32], shares: &[u32]) -> bool
-    requires prime { Prime p }
-    requires le_d { (1 ≤ d) × (d ≤ 32) × (1 ≤ e) × (e ≤ 12) × (length entries.now ≡ d * e) × (length shares.now ≡ d) }
-    ensures { FitsSays p d e chosen entries.now shares.now result }
-{
-    let n = e * d;
-    let mut columns = table();
-    let mut goal = line();
-    let mut duals = table();
-    let mut t = line();
-    let mut u = line();
-    let mut c = line();
-    fits_in(
-        p,
-        d,
-        e,
-        chosen,
-        entries,
-        shares,
-        &mut columns[0..n],
-        &mut goal[0..d],
-        &mut duals[0..n],
-        &mut t[0..d],
-        &mut u[0..d],
-        &mut c[0..e],
-    )
-}
-
-// Joins the shares at the chosen rows, with places for r and z lent.
-fn join_in(
-    p: u32,
-    d: usize,
-    e: usize,
-    chosen: u32,
-    entries: &[u32],
-    shares: &[u32],
-    r: &mut [u32],
-    z: &mut [u32],
-) -> Joined
-    requires prime { Prime p }
-    requires le_d { (1 ≤ d) × (d ≤ 32) × (1 ≤ e) × (e ≤ 12) × (length entries.now ≡ d * e) × (length shares.now ≡ d)
-        × (length r.old ≡ d) × (length z.old ≡ e) }
-    requires by_index { (i : ℕ) → get_or entries.now i 0 < p }
-    ensures { RowsSay p d e chosen entries.now shares.now result }
-{
-    let a = rows::ask(p, d, e, chosen, entries, r, z);
-    let opens = a.opens;
-    if !opens {
-        return Joined::Refused(11);
+    let Shape { p, d, e, .. } = scheme.shape;
+    let r = &mut [0u32; 32][..d];
+    let z = &mut [0u32; 32][..e];
+    let a = rows::ask(p, d, e, chosen, scheme.entries, r, z);
+    if !a.opens {
+        return Err(Refusal::SetClosed);
     }
-    if !fits(p, d, e, chosen, entries, shares) {
-        return Joined::Refused(12);
+    if !fits(scheme, chosen, shares) {
+        return Err(Refusal::NoDealing);
     }
-    Joined::Code(weighted(p, r, shares))
-}
-
-fn join_rows(p: u32, d: usize, e: usize, chosen: u32, entries: &[u32], shares: &[u32]) -> Joined
-    requires prime { Prime p }
-    requires le_d { (1 ≤ d) × (d ≤ 32) × (1 ≤ e) × (e ≤ 12) × (length entries.now ≡ d * e) × (length shares.now ≡ d) }
-    requires by_index { (i : ℕ) → get_or entries.now i 0 < p }
-    ensures { RowsSay p d e chosen entries.now shares.now result }
-{
-    let mut r = line();
-    let mut z = line();
-    join_in(p, d, e, chosen, entries, shares, &mut r[0..d], &mut z[0..e])
+    Ok(combination::dot(Modulus::new(p), r, shares))
 }
 
 // Joins a set's shares. Wrong answers that the contract rules out: a number for shares that no dealing gives; 12 for a closed set; a sum
 // that takes in a share outside the set's rows.
-pub fn join(s: Shape, labels: &[u32], entries: &[u32], set: u32, shares: &[u32]) -> Joined
-    ensures { JoinSays s labels.now entries.now set shares.now result }
+#[tactic(auto, using(crate::proofs::Says::says_refused, crate::proofs::Says::says))]
+pub fn join(scheme: Scheme<'_>, set: u32, shares: &[u32]) -> Result<u32, Refusal>
+    ensures { JoinSays scheme.entry.shape scheme.entry.labels.now scheme.entry.entries.now set shares.now result }
 {
-    let bad = join_refusal(s, labels, entries, set, shares);
-    if bad != 0 {
-        return Joined::Refused(bad);
-    }
-    let chosen = sets::chosen_rows(set, labels);
-    join_rows(s.p, s.d, s.e, chosen, entries, shares)
+    let checked = admitted(scheme, set, shares)?;
+    let chosen = sets::chosen_rows(set, checked.labels);
+    join_rows(checked, chosen, shares)
 }

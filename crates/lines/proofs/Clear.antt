@@ -1,4 +1,4 @@
--- Nothing is left at a pivot: the factor of line j takes off what is there, and the lines after it are 0 there. And the marks of pivots.
+-- Nothing is left at a pivot: the factor of line j takes off what is there, and the lines after it are 0 there.
 -- Assumes nothing.
 use mathlib.Core.Path.{◌≡◌, sym, ap, ap₂, ◌∙◌}
 use mathlib.Core.List.{List}
@@ -6,13 +6,11 @@ use mathlib.Core.Logic.{⊎_elim}
 use Prim.Native.Nat.{ℕ, zero, suc, ◌+◌, ◌-◌, ◌*◌, ◌%◌, ◌<◌, ◌≤◌}
 use native.Mathlib.Nat.{add-mod, zero-mod}
 use native.Mathlib.Omega.{arith}
-use lib.ListN.{get_or, set}
-use lib.Seq.{get_or-set_other}
-use Rattle.algebra.proofs.Cases.{lt_or_ge, same?}
+use lib.ListN.{get_or}
+use Rattle.algebra.proofs.Cases.{lt_or_ge}
 use Rattle.residue.proofs.Modulo.{mul_mod_mod, mod_neg_back}
 use Rattle.linear.specs.Combination.{total}
-use Rattle.lines.specs.Line.{at, col_sum, Pivots, Stepped, PivotMarks, Factored, Cleared}
-use Rattle.lines.proofs.Laws.{rested}
+use Rattle.lines.specs.Line.{at, col_sum, Pivots, Stepped, Factored, Cleared}
 
 -- A multiple of a number that is 0 modulo p is 0 modulo p.
 pub times_zero : (p g y : ℕ) → y % p ≡ 0 → g * y % p ≡ 0
@@ -50,16 +48,3 @@ cleared {p} {s} {t} {v} {g} lp pivs st f j l = stays_zero p a j (λ k. get_or g 
     here = ap (λ (z : ℕ). (a + (col_sum g t j c + z * at t j c)) % p) factor
         ∙ ap (λ (z : ℕ). z % p) {y = a + col_sum g t j c + (p - (a + col_sum g t j c) % p) * at t j c} (omega arith)
         ∙ clears p (a + col_sum g t j c) (at t j c) lp (st j l).0
-
-pub marks_start : (t : List (List ℕ)) (m : List ℕ) → ((i : ℕ) → get_or m i 0 ≡ 0) → PivotMarks t 0 m
-marks_start t m h i ne = absurd (ne (h i))
-
-pub marks_turn : (t : List (List ℕ)) (m : List ℕ) (j c x : ℕ) → PivotMarks t j m → at t j 25 ≡ c → PivotMarks t (j + 1) (set m c x)
-marks_turn t m j c x h q i ne = ⊎_elim
-    (λ (e : i ≡ c). (j, omega arith, q ∙ sym e))
-    (λ n. let w = h i (λ z. ne (get_or-set_other m c i x 0 n ∙ z)) in (w.0, omega (arith, w.1), w.2))
-    (same? i c)
-
-pub marked_zero : (p s : ℕ) (t : List (List ℕ)) (v m : List ℕ) → PivotMarks t s m → Cleared p t v s → (i : ℕ) → (get_or m i 0 ≡ 0 → ⊥)
-    → 0 ≡ rested p s t v i
-marked_zero p s t v m h z i ne = let w = h i ne in sym (ap (rested p s t v) (sym w.2) ∙ z w.0 w.1)

@@ -1,9 +1,9 @@
--- Laws of numbers and lists that the code's proofs cite: a sum term by term, the factors, the marks, and the line made of them.
+-- Laws of numbers and lists that the code's proofs cite: a sum term by term, the factors, and the line made of them.
 -- Assumes nothing.
-use mathlib.Core.Path.{◌≡◌, refl, sym, ap, ap₂, ◌∙◌}
+use mathlib.Core.Path.{◌≡◌, sym, ap, ap₂, ◌∙◌}
 use mathlib.Core.List.{List}
 use Prim.Native.Nat.{ℕ, ◌+◌, ◌-◌, ◌*◌, ◌%◌, ◌<◌, ◌≤◌}
-use native.Mathlib.Nat.{add-mod, mod-mod, mul-le-mul}
+use native.Mathlib.Nat.{add-mod, mod-mod}
 use native.Mathlib.Numerals.{add-one}
 use native.Mathlib.Omega.{arith}
 use borrow.Author.Count.{below_more}
@@ -19,9 +19,6 @@ pub record Summed (p a : ℕ) (f : ℕ → ℕ) (l acc : ℕ) : Type 0 where
   pub small : acc ≤ 4294967295 + l * 4294967295
   pub same : acc % p ≡ (a + total l f) % p
 
-pub sum_start : (p a : ℕ) (f : ℕ → ℕ) → a < 4294967296 → Summed p a f 0 a
-sum_start p a f h = record { small = omega arith; same = ap (λ (z : ℕ). z % p) (omega arith) }
-
 pub sum_turn : {p a : ℕ} {f : ℕ → ℕ} {l acc : ℕ} (r : ℕ) → Summed p a f l acc → r % p ≡ f l % p → r < 4294967296
     → Summed p a f (l + 1) (acc + r)
 sum_turn {p} {a} {f} {l} {acc} r h e lr = record {
@@ -29,14 +26,6 @@ sum_turn {p} {a} {f} {l} {acc} r h e lr = record {
   same = rw (add-one l) (add-mod acc r p ∙ ap₂ (λ (y z : ℕ). (y + z) % p) h.same e ∙ sym (add-mod (a + total l f) (f l) p)
       ∙ ap (λ (z : ℕ). z % p) (omega arith));
 }
-
-pub sum_end : {p a : ℕ} {f : ℕ → ℕ} {l acc : ℕ} (s : ℕ) → Summed p a f l acc → l ≡ s → acc % p ≡ (a + total s f) % p
-sum_end {p} {a} {f} s h q = h.same ∙ ap (λ (n : ℕ). (a + total n f) % p) q
-
--- A product of two numbers of 16 bits has 32.
-pub product_small : (x y : ℕ) → x < 65536 → y < 65536 → x * y < 4294967296
-product_small x y h k =
-    let l : x * y ≤ 4294836225 = mul-le-mul {n₁ = x} {m₁ = y} {n₂ = 65535} {m₂ = 65535} (omega arith) (omega arith) in omega arith
 
 pub low_set : (p : ℕ) (v : List ℕ) (i x : ℕ) → i < length v → (p < 65536 → x < 65536) → Low p v → Low p (set v i x)
 low_set p v i x l h lo lp k = set_at v i x k (λ y. y < 65536) l (h lp) (λ ne. lo lp k)
@@ -48,9 +37,6 @@ SameFactors j g h = (k : ℕ) → k < j → get_or g (12 + k) 0 ≡ get_or h (12
 pub col_same : (t : List (List ℕ)) (g h : List ℕ) (j c : ℕ) → SameFactors j g h → col_sum g t j c ≡ col_sum h t j c
 col_same t g h j c e =
     total_cong j (λ k. get_or g (12 + k) 0 * at t k c) (λ k. get_or h (12 + k) 0 * at t k c) (λ k l. ap (λ (y : ℕ). y * at t k c) (e k l))
-
-pub factored_start : (p : ℕ) (t : List (List ℕ)) (v : List ℕ) → length v ≡ 27 → Low p v → Factored p t v v 0
-factored_start p t v n lo = record { len = n; low = lo; vec = λ i l. refl; facs = λ k l. absurd (omega arith) }
 
 pub factored_turn : {p : ℕ} {t : List (List ℕ)} {v g : List ℕ} {j : ℕ} (x : ℕ) → Factored p t v g j → j < 12 → at t j 25 < 12
     → x ≡ (get_or g (at t j 25) 0 + col_sum g t j (at t j 25)) % p → Factored p t v (set g (12 + j) (p - x)) (j + 1)
@@ -79,40 +65,6 @@ factored_turn {p} {t} {v} {g} {j} x h lj lc e = record {
 -- What `marked` says of its line y, made of v, beside the shape.
 abbrev pub Marked : List ℕ → ℕ → ℕ → ℕ → List ℕ → Type 0
 Marked v q c k y = ((get_or y 24 0 ≡ q) × (get_or y 25 0 ≡ c) × (get_or y 26 0 ≡ k)) × ((i : ℕ) → i < 24 → get_or y i 0 ≡ get_or v i 0)
-
-module _ (p : ℕ) (v : List ℕ) (q c k : ℕ) where
-  abbrev v₁ : List ℕ
-  v₁ = set v 24 q
-
-  abbrev v₂ : List ℕ
-  v₂ = set v₁ 25 c
-
-  abbrev v₃ : List ℕ
-  v₃ = set v₂ 26 k
-
-  below₂ : (i : ℕ) → i < 26 → get_or v₃ i 0 ≡ get_or v₂ i 0
-  below₂ i l = get_or-set_other v₂ 26 i k 0 (λ r. omega arith)
-
-  below₁ : (i : ℕ) → i < 25 → get_or v₃ i 0 ≡ get_or v₁ i 0
-  below₁ i l = below₂ i (omega arith) ∙ get_or-set_other v₁ 25 i c 0 (λ r. omega arith)
-
-  pub marked_law : length v ≡ 27 → Low p v → (p < 65536 → q < 65536) → c < 65536 → k < 65536
-      → ((length v₃ ≡ 27) × Low p v₃) × Marked v q c k v₃
-  marked_law n lo lq lc lk =
-      let n₁ : length v₁ ≡ 27 = length-set v 24 q ∙ n in
-      let n₂ : length v₂ ≡ 27 = length-set v₁ 25 c ∙ n₁ in
-      let lo₁ = low_set p v 24 q (omega arith) lq lo in
-      let lo₂ = low_set p v₁ 25 c (omega arith) (λ _. lc) lo₁ in (
-        (length-set v₂ 26 k ∙ n₂, low_set p v₂ 26 k (omega arith) (λ _. lk) lo₂),
-        (
-          (
-            below₁ 24 (omega arith) ∙ get_or-set_same v 24 q 0 (omega arith),
-            below₂ 25 (omega arith) ∙ get_or-set_same v₁ 25 c 0 (omega arith),
-            get_or-set_same v₂ 26 k 0 (omega arith),
-          ),
-          λ i l. below₁ i (omega arith) ∙ get_or-set_other v 24 i q 0 (λ r. omega arith),
-        ),
-      )
 
 -- What `rest` leaves of g at place i.
 abbrev pub rested : ℕ → ℕ → List (List ℕ) → List ℕ → ℕ → ℕ

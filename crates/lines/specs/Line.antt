@@ -12,10 +12,6 @@ Low p v = p < 65536 → (i : ℕ) → get_or v i 0 < 65536
 abbrev pub Lows : ℕ → List (List ℕ) → Type 0
 Lows p t = p < 65536 → (j i : ℕ) → get_or (get_or t j []) i 0 < 65536
 
--- inv is a ratio of p, as `residue::reduce` wants it.
-abbrev pub Ratio : ℕ → ℕ → Type 0
-Ratio p inv = inv * p ≤ 8796093022208
-
 -- Place i of line j.
 abbrev pub at : List (List ℕ) → ℕ → ℕ → ℕ
 at t j i = get_or (get_or t j []) i 0

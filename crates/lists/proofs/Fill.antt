@@ -8,6 +8,8 @@ use native.Mathlib.Numerals.{add-one}
 use native.Mathlib.Omega.{arith}
 use lib.ListN.{length, get_or, set, length-set}
 use lib.Seq.{get_or-set_same, get_or-set_other}
+use borrow.Rule.Slice.PartMut.{put_mid}
+use Rattle.std.proofs.lemmas.Grind.{common_steps}
 use Rattle.algebra.proofs.Cases.{below_suc}
 
 -- The first i of the n places from `at` on hold f, all other places what they held before.
@@ -46,3 +48,14 @@ filled_front n f x₀ x i h k l = ap (λ (j : ℕ). get_or x j 0) (sym (zero-add
 -- A whole list that is filled.
 pub filled : (n : ℕ) (f : ℕ → ℕ) (x₀ x : List ℕ) (i : ℕ) → Filled 0 n f x₀ x i → n ≤ i → (k : ℕ) → k < n → get_or x k 0 ≡ f k
 filled n f x₀ x i h l k lk = filled_front n f x₀ x i h k (omega arith)
+
+-- A part of a list, the n places from `at` on, that is written over by ys.
+pub filled_part : (at n w : ℕ) (f : ℕ → ℕ) (x₀ ys : List ℕ) → length ys ≡ n → w ≡ n → at + n ≤ length x₀ → ((k : ℕ) → k < n → get_or ys k 0 ≡ f k)
+    → Filled at n f x₀ (put_mid at w x₀ ys) n
+filled_part at n w f x₀ ys long e fits h = record {
+  upto = omega arith;
+  size = grind (arith, common_steps);
+  done = λ k l. let q = h k l in grind (arith, common_steps);
+  before = λ j l. grind (arith, common_steps);
+  after = λ j l. grind (arith, common_steps);
+}

@@ -1,5 +1,6 @@
 -- The set question computed for a scheme: the verdict with its list is what `AskSays` permits, and all that it permits.
 -- Assumes nothing.
+use Rattle.std.specs.Prelude.{Ok}
 use mathlib.Core.Path.{◌≡◌, ap₂, ◌∙◌}
 use mathlib.Core.Bool.{Bool, true, false}
 use mathlib.Core.List.{List}
@@ -12,12 +13,11 @@ use Rattle.scheme.specs.Open as Set
 use Rattle.scheme.specs.Sets.{of_set}
 use Rattle.scheme.specs.Refusal.{ask_refusal_lem, IsScheme}
 use Rattle.scheme.proofs.Refusals.{Valid, valid}
-use Rattle.ask.specs.declared.Verdict.{Verdict}
 use Rattle.ask.specs.declared.Verdict.TheVariants.{Open, Closed}
 use Rattle.ask.specs.Says.{AskSays}
 use Rattle.ask.proofs.Says.{ask_answers, settled}
-use Rattle.marked.specs.Only.{Opens, Closes, Asks}
-use Rattle.marked.proofs.Parts.{three}
+use Rattle.marked.specs.Only.{Opens, Closes}
+use Rattle.marked.proofs.Parts.{only_with_two}
 use Rattle.linear.proofs.Decided.{decided}
 use Rattle.marked.proofs.Decided.{decided_opens, decided_closes}
 
@@ -46,28 +46,15 @@ module _ (s : Shape) (labels entries : List ℕ) (scheme : IsScheme s labels ent
         (asked_closes q v v).0
 
     module _ (inside : set < 2 ^ s.n) where
-      free : (r z : List ℕ) → length r ≡ s.d → length z ≡ s.e → ask_refusal_lem s labels entries set (length r) (length z) ≡ 0
+      free : (r z : List ℕ) → length r ≡ s.d → length z ≡ s.e → ask_refusal_lem s labels entries set (length r) (length z) ≡ Ok tt
       free r z lr lz = ap₂ (ask_refusal_lem s labels entries set) lr lz ∙ ask_answers s labels entries set scheme inside
 
-      says_open : asked set ≡ (true, v) → (r z : List ℕ) → length r ≡ s.d → length z ≡ s.e
-          → AskSays s labels entries set r z Open v z
+      pub opens : asked set ≡ (true, v) → Opens s labels entries set v
       unfolding AskSays
-      says_open q r z lr lz = (free r z lr lz, asked_opens q r z)
+      opens q r z lr lz = only_with_two (AskSays s labels entries set r z) (settled s labels entries set r z) (Ok Open) v z
+          (free r z lr lz, asked_opens q r z)
 
-      says_closed : asked set ≡ (false, v) → (r z : List ℕ) → length r ≡ s.d → length z ≡ s.e
-          → AskSays s labels entries set r z Closed r v
+      pub closes : asked set ≡ (false, v) → Closes s labels entries set v
       unfolding AskSays
-      says_closed q r z lr lz = (free r z lr lz, asked_closes q r z)
-
-  only : (set : ℕ) (r z : List ℕ) (a : Verdict) (r' z' : List ℕ) → AskSays s labels entries set r z a r' z'
-      → Asks s labels entries set r z (a, r', z')
-  only set r z a r' z' h = record {
-    holds = h;
-    alone = λ y g. let w = settled s labels entries set r z y.0 a y.1 y.2 r' z' g h in three w.0 w.1 w.2;
-  }
-
-  pub opens : (set : ℕ) (v : List ℕ) → set < 2 ^ s.n → asked set ≡ (true, v) → Opens s labels entries set v
-  opens set v l q r z lr lz = only set r z Open v z (says_open set v l q r z lr lz)
-
-  pub closes : (set : ℕ) (v : List ℕ) → set < 2 ^ s.n → asked set ≡ (false, v) → Closes s labels entries set v
-  closes set v l q r z lr lz = only set r z Closed r v (says_closed set v l q r z lr lz)
+      closes q r z lr lz = only_with_two (AskSays s labels entries set r z) (settled s labels entries set r z) (Ok Closed) r v
+          (free r z lr lz, asked_closes q r z)

@@ -1,8 +1,9 @@
 -- Joining computed for a scheme and shares: whether they fit a dealing, and the code or the refusal that `JoinSays` permits, and all that
 -- it permits.
 -- Assumes nothing.
+use Rattle.std.specs.Prelude.{Ok, Err}
 use mathlib.Core.Path.{◌≡◌, refl, sym, ap, ◌∙◌}
-use mathlib.Core.Bool.{Bool, true, false, cond, not, ◌||◌, true≢false, false≢true}
+use mathlib.Core.Bool.{Bool, true, false, cond, not, ◌||◌}
 use mathlib.Core.List.{List}
 use mathlib.Core.Logic.{◌⊎◌, inl, inr}
 use Prim.Native.Nat.{ℕ, ◌*◌, ◌%◌}
@@ -17,16 +18,16 @@ use Rattle.linear.proofs.Carry.{total_cong}
 use Rattle.linear.proofs.Masked.{total_zero}
 use Rattle.linear.proofs.Numbers.{answer, functional_none}
 use Rattle.scheme.specs.declared.Shape.{Shape}
+use Rattle.scheme.specs.declared.Refusal.TheVariants as R
 use Rattle.scheme.specs.Dealing.{share_of, Fits, joined}
 use Rattle.scheme.specs.Sets.{of_set}
 use Rattle.scheme.specs.Refusal.{join_refusal_lem, IsScheme}
 use Rattle.format.specs.Reading.{all_below}
 use Rattle.format.proofs.Tests.{all_at}
-use Rattle.join.specs.declared.Joined.{Joined}
-use Rattle.join.specs.declared.Joined.TheVariants.{Code, Refused}
 use Rattle.join.specs.Says.{JoinSays}
 use Rattle.join.proofs.Settled.{settled}
 use Rattle.marked.specs.Only.{JoinsTo}
+use Rattle.marked.proofs.Parts.{only}
 use Rattle.marked.proofs.Asked.{given, asked, asked_opens, asked_open, asked_closed}
 
 module _ (s : Shape) (labels entries : List ℕ) (scheme : IsScheme s labels entries) (set : ℕ) (shares : List ℕ) where
@@ -44,7 +45,7 @@ module _ (s : Shape) (labels entries : List ℕ) (scheme : IsScheme s labels ent
           → (not (of_set set labels k) || eqb (share_of s entries (place b) k) (place shares k)) ≡ true
           → share_of s entries (place b) k ≡ place shares k
       at k q true e w = eqb-true _ _ (sym (ap (λ o. not o || eqb (share_of s entries (place b) k) (place shares k)) e) ∙ w)
-      at k q false e w = absurd (true≢false (sym q ∙ e))
+      at k q false e w = absurd (cc)
 
   -- Whether some list does is the one question for the columns over the set's rows: a row outside the set is 0 on both sides.
   abbrev columns : ℕ → ℕ → ℕ
@@ -78,7 +79,7 @@ module _ (s : Shape) (labels entries : List ℕ) (scheme : IsScheme s labels ent
   is_none (inr y) = true
 
   none : (a : Answer) → is_none a ≡ true → Fits s labels entries set shares → ⊥
-  none (inl c) q f = false≢true q
+  none (inl c) q f = absurd (cc)
   none (inr y) q f = (functional_none s.p (given s labels entries scheme).prime s.d columns s.e goal y.0 y.1).none
       (fits_combination f)
 
@@ -86,23 +87,20 @@ module _ (s : Shape) (labels entries : List ℕ) (scheme : IsScheme s labels ent
   abbrev pub unfit : Bool
   unfit = is_none (answer s.p (given s labels entries scheme).prime s.d columns s.e goal)
 
-  only : (a : Joined) → JoinSays s labels entries set shares a → JoinsTo s labels entries set shares a
-  only a h = record { holds = h; alone = λ y g. settled s labels entries set shares y a g h }
-
-  module _ (free : join_refusal_lem s labels entries set shares ≡ 0) (v : List ℕ) where
+  module _ (free : join_refusal_lem s labels entries set shares ≡ Ok tt) (v : List ℕ) where
     pub joins_code : (b : List ℕ) → fitting b ≡ true → asked s labels entries scheme set ≡ (true, v)
-        → JoinsTo s labels entries set shares (Code (joined s shares (place v)))
+        → JoinsTo s labels entries set shares (Ok (joined s shares (place v)))
     unfolding JoinSays
-    joins_code b h q = only (Code (joined s shares (place v)))
+    joins_code b h q = only (JoinSays s labels entries set shares) (settled s labels entries set shares) (Ok (joined s shares (place v)))
         (free, fits b h, (place v, (asked_opens s labels entries scheme set v q v v).0, refl))
 
-    pub joins_closed : asked s labels entries scheme set ≡ (false, v) → JoinsTo s labels entries set shares (Refused 11)
+    pub joins_closed : asked s labels entries scheme set ≡ (false, v) → JoinsTo s labels entries set shares (Err R.SetClosed)
     unfolding JoinSays
-    joins_closed q = only (Refused 11) (inr (inl (free, refl, asked_closed s labels entries scheme set v q)))
+    joins_closed q = only (JoinSays s labels entries set shares) (settled s labels entries set shares) (Err R.SetClosed) (inr (inl (free, refl, asked_closed s labels entries scheme set v q)))
 
-    pub joins_unfit : asked s labels entries scheme set ≡ (true, v) → unfit ≡ true → JoinsTo s labels entries set shares (Refused 12)
+    pub joins_unfit : asked s labels entries scheme set ≡ (true, v) → unfit ≡ true → JoinsTo s labels entries set shares (Err R.NoDealing)
     unfolding JoinSays
-    joins_unfit q h = only (Refused 12) (inr (inr (
+    joins_unfit q h = only (JoinSays s labels entries set shares) (settled s labels entries set shares) (Err R.NoDealing) (inr (inr (
       free,
       refl,
       asked_open s labels entries scheme set v q,

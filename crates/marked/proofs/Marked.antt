@@ -2,6 +2,7 @@
 -- cites, that the example's outcome is permitted and the only one, for lent result lists of any content and the right length
 -- (specs/Only.antt). The outcomes are computed: a `refl` below runs the decision of the one question.
 -- Assumes nothing.
+use Rattle.std.specs.Prelude.{Some, None, Ok, Err}
 use mathlib.Core.Path.{◌≡◌, refl, sym}
 use mathlib.Core.List.{List, [], ◌∷◌, ◌++◌}
 use Prim.Native.Nat.{ℕ, ◌+◌, ◌*◌, ◌%◌}
@@ -10,12 +11,10 @@ use Rattle.residue.specs.Moduli.{is_in}
 use Rattle.linear.specs.Flat.{place}
 use Rattle.linear.specs.Product.{products}
 use Rattle.scheme.specs.declared.Shape.{Shape}
-use Rattle.scheme.specs.Tests.{each}
+use Rattle.scheme.specs.declared.Refusal.TheVariants as R
+use Rattle.scheme.specs.Numbers.{number_lem}
 use Rattle.scheme.specs.Dealing.{shares_of}
 use Rattle.scheme.specs.Refusal.{numbers_refusal_lem, content_refusal_lem, refusal_of, read_below_lem, IsScheme}
-use Rattle.join.specs.declared.Joined.TheVariants.{Code, Refused}
-use Rattle.threshold.specs.declared.Verdict.TheVariants.{Yes, No}
-use Rattle.threshold.specs.declared.Verdict.TheVariants as Verdict
 use Rattle.rules.specs.Tree.{rule_names}
 use Rattle.rules.specs.Text.{IsRule}
 use Rattle.rules.specs.Construction.{rows, modulo, rule_rows, less_all, rule_takes, ands, labels_of, entries_of}
@@ -78,31 +77,31 @@ pub record Table : Type 0 where
   pub B : Opens S labels entries 21 (4 ∷ 0 ∷ 3 ∷ 0 ∷ 11 ∷ [])
   pub b_sheet : Prints S labels entries 21
       (50 ∷ 49 ∷ 32 ∷ 79 ∷ 80 ∷ 69 ∷ 78 ∷ 32 ∷ 52 ∷ 32 ∷ 48 ∷ 32 ∷ 51 ∷ 32 ∷ 48 ∷ 32 ∷ 45 ∷ 54 ∷ 10 ∷ [])
-  pub b_joined : JoinsTo S labels entries 21 (8 ∷ 7 ∷ 10 ∷ 0 ∷ 11 ∷ []) (Code 13)
+  pub b_joined : JoinsTo S labels entries 21 (8 ∷ 7 ∷ 10 ∷ 0 ∷ 11 ∷ []) (Ok 13)
   -- "C. S, set 5: z = 1, 10, 6. D. Set 2: z = 1, 8, 0."
   pub C : Closes S labels entries 5 (1 ∷ 10 ∷ 6 ∷ [])
   pub D : Closes S labels entries 2 (1 ∷ 8 ∷ 0 ∷ [])
   -- "E. S, set 31: r = 3, 14, 1, 0, 0."
   pub E : Opens S labels entries 31 (3 ∷ 14 ∷ 1 ∷ 0 ∷ 0 ∷ [])
   -- "F. S, set 15, shares 8, 7, 10, 1, 0: refusal 12. Set 5: 11."
-  pub F : JoinsTo S labels entries 15 (8 ∷ 7 ∷ 10 ∷ 1 ∷ 0 ∷ []) (Refused 12)
-  pub f_closed : JoinsTo S labels entries 5 (8 ∷ 7 ∷ 10 ∷ 1 ∷ 0 ∷ []) (Refused 11)
+  pub F : JoinsTo S labels entries 15 (8 ∷ 7 ∷ 10 ∷ 1 ∷ 0 ∷ []) (Err R.NoDealing) × (number_lem R.NoDealing ≡ 12)
+  pub f_closed : JoinsTo S labels entries 5 (8 ∷ 7 ∷ 10 ∷ 1 ∷ 0 ∷ []) (Err R.SetClosed) × (number_lem R.SetClosed ≡ 11)
   -- "G. S, product: yes, r = 5, 7, 10, 12, 1."
   pub G : ProductYes S labels entries (5 ∷ 7 ∷ 10 ∷ 12 ∷ 1 ∷ [])
   -- "H. S's first four rows, n = 4: no, w = 1, 5, 5, 0, 1, 5."
   pub H : ProductNo four four_labels four_entries (1 ∷ 5 ∷ 5 ∷ 0 ∷ 1 ∷ 5 ∷ [])
   -- "I. S, threshold t = 2: yes; t = 1: No 3; t = 3: No 7; t = 5: refusal 10."
-  pub I : ThresholdIs S labels entries 2 Yes
-  pub i_low : ThresholdIs S labels entries 1 (No 3)
-  pub i_high : ThresholdIs S labels entries 3 (No 7)
-  pub i_refused : ThresholdIs S labels entries 5 (Verdict.Refused 10)
+  pub I : ThresholdIs S labels entries 2 (Ok None)
+  pub i_low : ThresholdIs S labels entries 1 (Ok (Some 3))
+  pub i_high : ThresholdIs S labels entries 3 (Ok (Some 7))
+  pub i_refused : ThresholdIs S labels entries 5 (Err R.Threshold) × (number_lem R.Threshold ≡ 10)
   -- "J. `(1|2)&3`, p = 17, n = 3: rows (0,1), (0,1), (1,16), labels 1, 2, 3. For t = 1: No 3."
   pub J : Builds 17 3 text built built_labels built_entries
-  pub j_threshold : ThresholdIs built built_labels built_entries 1 (No 3)
+  pub j_threshold : ThresholdIs built built_labels built_entries 1 (Ok (Some 3))
   -- "K. p = 2, n = 2, one row (1) of participant 1: set 1 has r = 1, set 2 has z = 1; t = 0: No 2. With row (0): set 1 closed."
   pub K : Opens single (1 ∷ []) (1 ∷ []) 1 (1 ∷ [])
   pub k_closed : Closes single (1 ∷ []) (1 ∷ []) 2 (1 ∷ [])
-  pub k_threshold : ThresholdIs single (1 ∷ []) (1 ∷ []) 0 (No 2)
+  pub k_threshold : ThresholdIs single (1 ∷ []) (1 ∷ []) 0 (Ok (Some 2))
   pub k_zero : Closes single (1 ∷ []) (0 ∷ []) 1 (1 ∷ [])
   -- "L. The checks of S's two file blocks: 1122 and 6524." Each is the sum, and stands in the last four bytes of its block of the file.
   pub l_heading : check_of_lem 1 S labels entries 0 ≡ 1122
@@ -112,23 +111,23 @@ pub record Table : Type 0 where
   pub l_rows_bytes : number_of 4 (λ k. place (file_of 1 S labels entries) (1020 + k)) ≡ 6524
 
 s_scheme : IsScheme S labels entries
-unfolding refusal_of numbers_refusal_lem content_refusal_lem each is_in
+unfolding refusal_of numbers_refusal_lem content_refusal_lem is_in
 s_scheme = refl
 
 four_scheme : IsScheme four four_labels four_entries
-unfolding refusal_of numbers_refusal_lem content_refusal_lem each is_in
+unfolding refusal_of numbers_refusal_lem content_refusal_lem is_in
 four_scheme = refl
 
 built_scheme : IsScheme built built_labels built_entries
-unfolding refusal_of numbers_refusal_lem content_refusal_lem each is_in
+unfolding refusal_of numbers_refusal_lem content_refusal_lem is_in
 built_scheme = refl
 
 one_scheme : IsScheme single (1 ∷ []) (1 ∷ [])
-unfolding refusal_of numbers_refusal_lem content_refusal_lem each is_in
+unfolding refusal_of numbers_refusal_lem content_refusal_lem is_in
 one_scheme = refl
 
 zero_scheme : IsScheme single (1 ∷ []) (0 ∷ [])
-unfolding refusal_of numbers_refusal_lem content_refusal_lem each is_in
+unfolding refusal_of numbers_refusal_lem content_refusal_lem is_in
 zero_scheme = refl
 
 -- The text is the rule with this tree.
@@ -141,7 +140,7 @@ text_rule_lem = record {
 }
 
 pub marked : Table
-unfolding refusal_of numbers_refusal_lem content_refusal_lem each is_in read_below_lem shares_of products all_below
+unfolding refusal_of numbers_refusal_lem content_refusal_lem is_in read_below_lem shares_of products all_below
     rule_names rows modulo rule_rows less_all rule_takes ands labels_of entries_of file_of set_text vector_text decimal digits_in whole_text
 marked = record {
   A = deals S labels entries 13 (10 ∷ 2 ∷ []) refl;
@@ -152,14 +151,14 @@ marked = record {
   C = closes S labels entries s_scheme 5 (1 ∷ 10 ∷ 6 ∷ []) (omega arith) refl;
   D = closes S labels entries s_scheme 2 (1 ∷ 8 ∷ 0 ∷ []) (omega arith) refl;
   E = opens S labels entries s_scheme 31 (3 ∷ 14 ∷ 1 ∷ 0 ∷ 0 ∷ []) (omega arith) refl;
-  F = joins_unfit S labels entries s_scheme 15 (8 ∷ 7 ∷ 10 ∷ 1 ∷ 0 ∷ []) refl (3 ∷ 14 ∷ 1 ∷ 0 ∷ 0 ∷ []) refl refl;
-  f_closed = joins_closed S labels entries s_scheme 5 (8 ∷ 7 ∷ 10 ∷ 1 ∷ 0 ∷ []) refl (1 ∷ 10 ∷ 6 ∷ []) refl;
+  F = (joins_unfit S labels entries s_scheme 15 (8 ∷ 7 ∷ 10 ∷ 1 ∷ 0 ∷ []) refl (3 ∷ 14 ∷ 1 ∷ 0 ∷ 0 ∷ []) refl refl, refl);
+  f_closed = (joins_closed S labels entries s_scheme 5 (8 ∷ 7 ∷ 10 ∷ 1 ∷ 0 ∷ []) refl (1 ∷ 10 ∷ 6 ∷ []) refl, refl);
   G = product_yes S labels entries s_scheme (5 ∷ 7 ∷ 10 ∷ 12 ∷ 1 ∷ []) refl;
   H = product_no four four_labels four_entries four_scheme (1 ∷ 5 ∷ 5 ∷ 0 ∷ 1 ∷ 5 ∷ []) refl;
   I = threshold_yes S labels entries s_scheme 2 (omega arith) refl;
   i_low = threshold_no S labels entries s_scheme 1 (omega arith) 3 (omega arith) refl refl;
   i_high = threshold_no S labels entries s_scheme 3 (omega arith) 7 (omega arith) refl refl;
-  i_refused = threshold_refused S labels entries 5 10 refl (omega arith);
+  i_refused = (threshold_refused S labels entries 5 R.Threshold refl, refl);
   J = builds 17 3 text Tried.J refl text_rule_lem refl;
   j_threshold = threshold_no built built_labels built_entries built_scheme 1 (omega arith) 3 (omega arith) refl refl;
   K = opens single (1 ∷ []) (1 ∷ []) one_scheme 1 (1 ∷ []) (omega arith) refl;

@@ -6,7 +6,6 @@ use mathlib.Core.List.{List, [], ◌∷◌}
 use Prim.Native.Nat.{ℕ}
 use native.Mathlib.Omega.{arith}
 use Rattle.residue.specs.Moduli.{is_in}
-use Rattle.scheme.specs.Tests.{each}
 use Rattle.scheme.specs.Refusal.{IsScheme, numbers_refusal_lem, content_refusal_lem, refusal_of}
 use Rattle.rules.specs.Tree.{Rule, term, atom, ◌and◌, number, rule_names}
 use Rattle.rules.specs.Text.{IsRule, rule_text, numeral}
@@ -37,11 +36,11 @@ text_rule_lem = record {
 
 -- "For the file of rule `1&2`, p = 17, n = 2"
 pub the_rule : Builds 17 2 text shape labels entries
-unfolding is_in each rule_names rows modulo rule_rows less_all rule_takes ands labels_of entries_of
+unfolding is_in rule_names rows modulo rule_rows less_all rule_takes ands labels_of entries_of
 the_rule = builds 17 2 text both refl text_rule_lem refl
 
 scheme : IsScheme shape labels entries
-unfolding refusal_of numbers_refusal_lem content_refusal_lem each is_in
+unfolding refusal_of numbers_refusal_lem content_refusal_lem is_in
 scheme = refl
 
 pub the_file : Writes shape labels entries 1024 (file_of 1 shape labels entries)

@@ -4,12 +4,10 @@
 
 #![tactic(auto)]
 
-ghost use Rattle.std.specs.Prelude.{◌≡◌, ◌≤◌, ◌*◌, length, take};
+ghost use Rattle.std.specs.Prelude.{◌≡◌, ◌≤◌, ◌*◌, length, take, Ok};
 ghost use Rattle.scheme.specs.Refusal.{check_refusal};
 
-use requests::Read;
-use scheme::{Made, Outcome, Shape};
-use sheets::Written;
+use scheme::{Refusal, Scheme, Shape};
 use std::io;
 use std::io::Write;
 
@@ -18,36 +16,23 @@ const NEWLINE: u8 = 10;
 // The first line, without its end.
 fn first_line(input: &[u8]) -> &[u8] {
     let end = input.iter().position(|b| *b == NEWLINE);
-    &input[0..end.unwrap_or(input.len())]
+    &input[..end.unwrap_or(input.len())]
 }
 
-// A word as a number; 0 where it is none.
-fn number(word: &[u8]) -> u32 {
-    let mut one = [0u32; 1];
-    let read = requests::numbers(word, &mut one);
-    match read {
-        Read::Bad => 0,
-        Read::Count(_) => one[0],
-    }
+// A word as a number.
+fn number(word: &[u8]) -> Option<u32> {
+    let mut one = [0];
+    requests::numbers(word, &mut one)?;
+    Some(one[0])
 }
 
-fn say_refused(to: &mut impl Write, k: u32) -> io::Result<()> {
+fn say_refused(to: &mut impl Write, why: Refusal) -> io::Result<()> {
     let mut line = [0u8; 256];
-    let w = sheets::refused(k, &mut line);
-    print(to, &line, w)
-}
-
-// Prints the bytes that were written.
-fn print(to: &mut impl Write, out: &[u8], w: Written) -> io::Result<()> {
-    match w {
-        Written::Refused(_) => {}
-        Written::Bytes(n) => {
-            if n <= out.len() {
-                return to.write_all(&out[0..n]);
-            }
-        }
+    let size = sheets::refused(why.number(), &mut line).unwrap_or(0);
+    if size > line.len() {
+        return Ok(());
     }
-    Ok(())
+    to.write_all(&line[0..size])
 }
 
 // How many bytes the file of d rows has: a heading block and a block for each 20 rows.
@@ -67,10 +52,14 @@ fn print_file(
     entries: &[u32],
     file: &mut [u8],
 ) -> io::Result<()> {
-    let told = writing::write(s, labels, entries, &mut *file);
-    match told {
-        Outcome::Done => to.write_all(file),
-        Outcome::Refused(k) => say_refused(to, k),
+    let scheme = Scheme {
+        shape: s,
+        labels,
+        entries,
+    };
+    match writing::write(scheme, file) {
+        Ok(()) => to.write_all(file),
+        Err(why) => say_refused(to, why),
     }
 }
 
@@ -83,12 +72,11 @@ fn print_built(
     file: &mut [u8],
 ) -> io::Result<()>
     requires labels_len { (length labels.now ≡ 32) × (length entries.now ≡ 384) × (length file.old ≡ 1536) }
-    requires entries_value { check_refusal s (take s.d labels.now) (take (s.d * s.e) entries.now) ≡ 0 }
+    requires entries_value { check_refusal s (take s.d labels.now) (take (s.d * s.e) entries.now) ≡ Ok tt }
 {
-    let d = s.d;
-    let cells = d * s.e;
-    let size = file_size(d);
-    print_file(to, s, &labels[0..d], &entries[0..cells], &mut file[0..size])
+    let cells = s.d * s.e;
+    let size = file_size(s.d);
+    print_file(to, s, &labels[..s.d], &entries[..cells], &mut file[..size])
 }
 
 fn make(
@@ -102,10 +90,9 @@ fn make(
 ) -> io::Result<()>
     requires { (length labels.old ≡ 32) × (length entries.old ≡ 384) × (length file.old ≡ 1536) }
 {
-    let made = rule::build(p, n, text, &mut *labels, &mut *entries);
-    match made {
-        Made::Refused(k) => say_refused(to, k),
-        Made::Scheme(s) => print_built(to, s, labels, entries, file),
+    match rule::build(p, n, text, labels, entries) {
+        Ok(s) => print_built(to, s, labels, entries, file),
+        Err(why) => say_refused(to, why),
     }
 }
 
@@ -115,8 +102,9 @@ fn main(rt: HostRuntime) -> io::Result<()> {
     let got = input::read_full(&mut rt.reader(), &mut space)?;
     let line = first_line(&space[..got]);
     let rest = requests::text(line);
-    let p = number(requests::name(line));
-    let n = number(requests::name(rest));
+    // 0 is refused in the place of what is no number.
+    let p = number(requests::name(line)).unwrap_or(0);
+    let n = number(requests::name(rest)).unwrap_or(0);
     let mut labels = [0u32; 32];
     let mut entries = [0u32; 384];
     let mut file = [0u8; 1536];

@@ -1,11 +1,12 @@
 -- A panel and the cards that are in it: each call on the panel changes the one as the call changes the other.
 -- Assumes nothing.
+use Rattle.std.specs.Prelude.{Ok, Err}
 use mathlib.Core.Path.{◌≡◌, refl, sym, ap, ap₂, subst, subst⁻¹, ◌∙◌}
 use mathlib.Core.Bool.{Bool, true, false, cond, not, ◌&&◌, ◌||◌, false≢true}
 use mathlib.Core.List.{List, []}
 use mathlib.Core.Logic.{⊎_elim}
 use mathlib.Core.Option.{Option, none, some}
-use Prim.Native.Nat.{ℕ, suc, ◌-◌, ◌^◌, ◌<◌, ◌≤◌}
+use Prim.Native.Nat.{ℕ, ◌-◌, ◌^◌, ◌<◌, ◌≤◌}
 use native.Mathlib.Omega.{arith}
 use lib.Dec.{eqb}
 use lib.ListN.{length, take}
@@ -13,16 +14,18 @@ use lib.Seq.{get_or-take}
 use borrow.Author.Tests.{eq-eqb, ne_eqb, not-true}
 use Rattle.algebra.proofs.Cases.{same?}
 use Rattle.linear.specs.Flat.{place}
+use Rattle.scheme.specs.declared.Refusal.{Refusal}
+use Rattle.scheme.specs.declared.Refusal.TheVariants as R
 use Rattle.scheme.specs.Sets.{in_set}
 use Rattle.scheme.specs.Tests.{within, each_below, unless}
 use Rattle.scheme.specs.Refusal.{read_below_lem, IsScheme}
-use Rattle.scheme.proofs.Refusals.{Valid, valid, below_at, and-true, unless_zero}
+use Rattle.scheme.proofs.Refusals.{Valid, valid, below_at, and-true, unless_ok}
 use Rattle.scheme.proofs.Tests.{within_true, within_is}
 use Rattle.panel.specs.declared.Panel.{Panel}
 use Rattle.panel.specs.Cards.{shape_of, labels_of, entries_of, stored_of, rows_of, put_refusal_lem, take_refusal_lem, with_card, without_card}
 use Rattle.panel.specs.History.{Held, put, out, holding, card_after, good_card, changed, is_in, set_of}
 use Rattle.panel.specs.Steps.{places_right_lem}
-use Rattle.panel.proofs.Refused.{accepted, unrefused, places_are}
+use Rattle.panel.proofs.Refused.{accepted, unrefused, places_are, not_both}
 use Rattle.panel.proofs.Marks.{set_small, set_has, set_same, set_change}
 use Rattle.panel.proofs.Stored.{laid_length, laid_own, laid_other, read_by}
 
@@ -112,22 +115,22 @@ module _ (a : Panel) (held : Held) (sound : IsScheme (shape_of a) (labels_of a) 
     after = changed (shape_of a) (labels_of a) held (put who shares)
 
     -- A good card of one whose card is out is not refused.
-    taken : held who ≡ none → good ≡ true → put_refusal_lem a who shares ≡ 0
+    taken : held who ≡ none → good ≡ true → put_refusal_lem a who shares ≡ Ok tt
     taken e g =
         let x = and-true (within 1 a.n who) _ g in
         let y = and-true (eqb (length shares) (rows_of who (labels_of a))) _ x.1 in
         let w = within_true 1 a.n who x.0 in
         unrefused (shape_of a) (labels_of a) (entries_of a) a.cards (stored_of a) (places_right_lem a.n who (labels_of a) (length shares))
-        (within 1 a.n who) (each_below a.p shares) (unless (not (in_set a.cards who)) 21) sound
+        (within 1 a.n who) (each_below a.p shares) (unless (not (in_set a.cards who)) R.CardIn) sound
         (places_right_holds (within 1 a.n who) (eqb (length shares) (rows_of who (labels_of a))) y.0) inside x.0 read y.1
-        (ap (λ b. unless (not b) 21) (in_is who w.0 w.1 ∙ ap is_in e))
+        (ap (λ b. unless (not b) R.CardIn) (in_is who w.0 w.1 ∙ ap is_in e))
       where
         places_right_holds : (b c : Bool) → c ≡ true → (not b || c) ≡ true
         places_right_holds true c q = q
         places_right_holds false c q = refl
 
     -- A refused one changes nothing on either side.
-    pub put_refused : (k : ℕ) → put_refusal_lem a who shares ≡ suc k → Holds a after
+    pub put_refused : (k : Refusal) → put_refusal_lem a who shares ≡ Err k → Holds a after
     put_refused k z = holds_fewer a held after h (λ i x e. sym (holding_same held who _ i kept) ∙ e)
         (set_same a.n held after (λ i l u. ap is_in (sym (holding_same held who _ i kept))))
       where
@@ -140,17 +143,17 @@ module _ (a : Panel) (held : Held) (sound : IsScheme (shape_of a) (labels_of a) 
               where
                 test : (g : Bool) → good ≡ g → card_after none g shares ≡ none
                 test false q = refl
-                test true q = absurd (omega (arith, taken e q, z))
+                test true q = absurd (not_both _ k (taken e q) z)
 
     -- One that is not refused is a good card of one whose card was out; its shares are stored and its mark set.
-    pub put_taken : put_refusal_lem a who shares ≡ 0 → Holds (with_card a who shares) after
+    pub put_taken : put_refusal_lem a who shares ≡ Ok tt → Holds (with_card a who shares) after
     put_taken z =
         let t = accepted (shape_of a) (labels_of a) (entries_of a) a.cards (stored_of a)
         (places_right_lem a.n who (labels_of a) (length shares)) (within 1 a.n who) (each_below a.p shares)
-        (unless (not (in_set a.cards who)) 21) z in
+        (unless (not (in_set a.cards who)) R.CardIn) z in
         let w = within_true 1 a.n who t.among in
         let places = places_are a.n who (labels_of a) (length shares) t.among t.fits in
-        let none_in = not-true (in_set a.cards who) (unless_zero (not (in_set a.cards who)) 20 t.after) in
+        let none_in = not-true (in_set a.cards who) (unless_ok _ _ t.after) in
         let empty = none_of (held who) (sym (in_is who w.0 w.1) ∙ none_in) in
         let card : card_after (held who) good shares ≡ some shares =
         ap₂ (λ c g. card_after c g shares) empty (ap₂ ◌&&◌ t.among (ap₂ ◌&&◌ (eq-eqb _ _ places) t.own)) in
@@ -184,12 +187,12 @@ module _ (a : Panel) (held : Held) (sound : IsScheme (shape_of a) (labels_of a) 
     abbrev left : Held
     left = changed (shape_of a) (labels_of a) held (out who)
 
-    let_go : 1 ≤ who → who ≤ a.n → in_set a.cards who ≡ true → take_refusal_lem a who ≡ 0
+    let_go : 1 ≤ who → who ≤ a.n → in_set a.cards who ≡ true → take_refusal_lem a who ≡ Ok tt
     let_go low high q = unrefused (shape_of a) (labels_of a) (entries_of a) a.cards (stored_of a) true (within 1 a.n who) true
-        (unless (in_set a.cards who) 22) sound refl inside (within_is 1 a.n who low high) read refl (ap (λ b. unless b 22) q)
+        (unless (in_set a.cards who) R.CardNotIn) sound refl inside (within_is 1 a.n who low high) read refl (ap (λ b. unless b R.CardNotIn) q)
 
     -- A refused one: the card was not in.
-    pub out_refused : (k : ℕ) → take_refusal_lem a who ≡ suc k → Holds a left
+    pub out_refused : (k : Refusal) → take_refusal_lem a who ≡ Err k → Holds a left
     out_refused k z = holds_fewer a held left h (λ i x e. holding_less held who none i refl x e)
         (set_same a.n held left (λ i l u. ⊎_elim
         (λ e. sym (in_is i l u) ∙ absent i l u e (in_set a.cards i) refl ∙ sym (ap is_in (holding_own held who none i e)))
@@ -198,14 +201,14 @@ module _ (a : Panel) (held : Held) (sound : IsScheme (shape_of a) (labels_of a) 
       where
         absent : (i : ℕ) → 1 ≤ i → i ≤ a.n → i ≡ who → (b : Bool) → in_set a.cards i ≡ b → in_set a.cards i ≡ false
         absent i l u e false q = q
-        absent i l u e true q = absurd (omega (arith, z, let_go (omega arith) (omega arith) (ap (λ (j : ℕ). in_set a.cards j) (sym e) ∙ q)))
+        absent i l u e true q = absurd (not_both _ k (let_go (omega arith) (omega arith) (ap (λ (j : ℕ). in_set a.cards j) (sym e) ∙ q)) z)
 
-    pub out_taken : take_refusal_lem a who ≡ 0 → Holds (without_card a who) left
+    pub out_taken : take_refusal_lem a who ≡ Ok tt → Holds (without_card a who) left
     out_taken z =
         let t = accepted (shape_of a) (labels_of a) (entries_of a) a.cards (stored_of a) true (within 1 a.n who) true
-        (unless (in_set a.cards who) 22) z in
+        (unless (in_set a.cards who) R.CardNotIn) z in
         let w = within_true 1 a.n who t.among in
-        let in-set = unless_zero (in_set a.cards who) 21 t.after in
+        let in-set = unless_ok _ _ t.after in
         let m : cond (is_in (held who)) (2 ^ (who - 1)) 0 ≡ 2 ^ (who - 1) =
         ap (λ b. cond b (2 ^ (who - 1)) 0) (sym (in_is who w.0 w.1) ∙ in-set) in
         let n : cond (is_in (left who)) (2 ^ (who - 1)) 0 ≡ 0 = ap (λ c. cond (is_in c) (2 ^ (who - 1)) 0) (holding_own held who none who refl) in

@@ -9,10 +9,9 @@ use lib.ListN.{length, take, drop, get_or, set, drop_of_length-le, take-append-d
 use lib.Seq.{take-suc, take-suc-set, drop-set-lt}
 use borrow.Author.Tests.{eq-eqb, ne_eqb}
 use Rattle.residue.proofs.Moduli.{drop_next}
-use Rattle.lists.proofs.Fill.{Filled, filled}
-use Rattle.linear.specs.Flat.{place}
-use Rattle.scheme.specs.Outcome.{over}
-use Rattle.scheme.proofs.Over.{over_is}
+use Rattle.std.proofs.Common.{cond, eqb}
+use Rattle.std.proofs.lemmas.List.Recursion.{is_sum_by}
+use Rattle.std.specs.List.{count_by}
 use Rattle.panel.specs.Cards.{rows_of, laid}
 
 module _ (who : ℕ) (labels : List ℕ) (i : ℕ) (h : i < length labels) where
@@ -56,13 +55,6 @@ pub lay_end : (who : ℕ) (labels shares stored : List ℕ) (i k : ℕ) → leng
 unfolding laid
 lay_end who labels shares stored i k h = rw (drop_of_length-le labels h) (take-append-drop i stored)
 
-pub rows_end : (who : ℕ) (labels : List ℕ) (i : ℕ) → length labels ≤ i → rows_of who (drop i labels) ≡ 0
+pub rows_counted : (who : ℕ) (labels : List ℕ) → rows_of who labels ≡ count_by (λ x. eqb x who) labels
 unfolding rows_of
-rows_end who labels i h = rw (drop_of_length-le labels h)
-
--- A loop that has copied a whole list over the first places of another.
-pub copied : (from to₀ to : List ℕ) (k : ℕ) → Filled 0 (length from) (place from) to₀ to k → length from ≤ k → length from ≤ length to₀
-    → to ≡ over from to₀
-copied from to₀ to k h l fits = over_is from to₀ to h.size fits
-    (λ i m. filled (length from) (place from) to₀ to k h l i m)
-    (λ i m. h.after i (omega (arith, h.upto)))
+rows_counted who labels = is_sum_by (rows_of who) (λ x. cond (eqb x who) 1 0) refl (λ x xs. refl) labels

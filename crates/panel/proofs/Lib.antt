@@ -1,6 +1,5 @@
 pub mod Laying
 pub mod Refused
-pub mod Answers
 pub mod Settled
 pub mod Marks
 pub mod Stored

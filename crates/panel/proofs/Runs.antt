@@ -1,17 +1,19 @@
 -- Document 01, "The card panel": asked for the code after any run of calls, the panel answers as joining does for the cards now in it, with
 -- the shares of the last put that was not refused.
 -- Assumes nothing.
+use Rattle.std.specs.Prelude.{Result, Ok, Err}
 use mathlib.Core.Path.{◌≡◌, refl, sym, ap, ap₂, subst, ◌∙◌}
 use mathlib.Core.Bool.{true, false≢true}
 use mathlib.Core.List.{List, [], ◌∷◌}
 use mathlib.Core.Option.{none, some}
-use Prim.Native.Nat.{ℕ, zero, suc, ◌*◌, ◌≤◌}
+use Prim.Native.Nat.{ℕ, ◌*◌, ◌≤◌}
 use native.Mathlib.Omega.{arith}
 use lib.ListN.{length, take, replicate}
 use lib.Seq.{length-take-le}
 use Rattle.linear.specs.Flat.{place}
 use Rattle.linear.proofs.Flat.{list_length, list_at}
 use Rattle.scheme.specs.declared.Shape.{Shape}
+use Rattle.scheme.specs.declared.Refusal.{Refusal}
 use Rattle.scheme.specs.Sets.{of_set}
 use Rattle.scheme.specs.Refusal.{check_refusal, IsScheme}
 use Rattle.scheme.proofs.Refusals.{Valid, valid}
@@ -52,20 +54,20 @@ unfolding ran held_after
 run_from [] a held sound h told said = answers a held sound h told said
 run_from (put who shares ∷ calls) a held sound h told said = go (put_refusal_lem a who shares) refl said (λ b held. run_from calls b held)
   where
-    go : (k : ℕ) → put_refusal_lem a who shares ≡ k → CodeSays (ran (told_at k a (with_card a who shares)).panel calls) told
+    go : (k : Result Unit Refusal) → put_refusal_lem a who shares ≡ k → CodeSays (ran (told_at k a (with_card a who shares)).panel calls) told
         → ((b : Panel) (held : Held) → IsScheme (shape_of b) (labels_of b) (entries_of b) → Holds b held → (told : Coded)
         → CodeSays (ran b calls) told → Answers b (held_after (shape_of b) (labels_of b) held calls) told)
         → Answers a (held_after (shape_of a) (labels_of a) (changed (shape_of a) (labels_of a) held (put who shares)) calls) told
-    go zero z said rest = rest (with_card a who shares) _ sound (put_taken a held sound h who shares z) told said
-    go (suc k) z said rest = rest a _ sound (put_refused a held sound h who shares k z) told said
+    go (Ok u) z said rest = rest (with_card a who shares) _ sound (put_taken a held sound h who shares z) told said
+    go (Err k) z said rest = rest a _ sound (put_refused a held sound h who shares k z) told said
 run_from (out who ∷ calls) a held sound h told said = go (take_refusal_lem a who) refl said (λ b held. run_from calls b held)
   where
-    go : (k : ℕ) → take_refusal_lem a who ≡ k → CodeSays (ran (told_at k a (without_card a who)).panel calls) told
+    go : (k : Result Unit Refusal) → take_refusal_lem a who ≡ k → CodeSays (ran (told_at k a (without_card a who)).panel calls) told
         → ((b : Panel) (held : Held) → IsScheme (shape_of b) (labels_of b) (entries_of b) → Holds b held → (told : Coded)
         → CodeSays (ran b calls) told → Answers b (held_after (shape_of b) (labels_of b) held calls) told)
         → Answers a (held_after (shape_of a) (labels_of a) (changed (shape_of a) (labels_of a) held (out who)) calls) told
-    go zero z said rest = rest (without_card a who) _ sound (out_taken a held sound h who z) told said
-    go (suc k) z said rest = rest a _ sound (out_refused a held sound h who k z) told said
+    go (Ok u) z said rest = rest (without_card a who) _ sound (out_taken a held sound h who z) told said
+    go (Err k) z said rest = rest a _ sound (out_refused a held sound h who k z) told said
 run_from (ask ∷ calls) a held sound h told said = run_from calls a held sound h told said
 
 none_some : (x : List ℕ) → none ≡ some x → ⊥

@@ -1,8 +1,10 @@
 -- Document 01, "The card panel": the calls on a panel's state, each as a function of the state.
 -- Assumes nothing.
-use Rattle.std.specs.Prelude.{Bool, true, cond, not, ◌&&◌, ◌||◌, List, [], ◌∷◌, ℕ, zero, suc, ◌+◌, ◌-◌, ◌*◌, ◌^◌, eqb, ltb, length, take, replicate}
+use Rattle.std.specs.Prelude.{Bool, true, cond, not, ◌&&◌, ◌||◌, List, [], ◌∷◌, ℕ, ◌+◌, ◌-◌, ◌*◌, ◌^◌, eqb, ltb, length, take, replicate, Result, Ok, Err}
 use Rattle.scheme.specs.declared.Shape.{Shape}
-use Rattle.scheme.specs.Outcome.{outcome_at, over}
+use Rattle.scheme.specs.declared.Refusal.{Refusal}
+use Rattle.scheme.specs.declared.Refusal.TheVariants as R
+use Rattle.scheme.specs.Outcome.{over}
 use Rattle.scheme.specs.Sets.{in_set}
 use Rattle.scheme.specs.Tests.{within, each_below, unless, or_else}
 use Rattle.scheme.specs.Refusal.{refusal_of, read_below_lem}
@@ -31,21 +33,21 @@ rows_of who (label ∷ labels) = cond (eqb label who) 1 0 + rows_of who labels
 -- "A panel state handed in is checked like any other input, by refusals 1 to 9; what it stores for a participant whose card is out is not
 -- read." lengths: the call's own lists have their lengths; among: its participant is from 1 to n; below: its own shares are below p;
 -- more: what it refuses after 9.
-abbrev pub state_refusal : Panel → Bool → Bool → Bool → ℕ → ℕ
+abbrev pub state_refusal : Panel → Bool → Bool → Bool → Result Unit Refusal → Result Unit Refusal
 state_refusal a lengths among below more =
     refusal_of (shape_of a) (labels_of a) (entries_of a) lengths
-    (or_else (unless (ltb a.cards (2 ^ a.n) && among) 8)
-    (or_else (unless (read_below_lem a.p a.cards (labels_of a) (stored_of a) && below) 9)
+    (or_else (unless (ltb a.cards (2 ^ a.n) && among) R.Outsider)
+    (or_else (unless (read_below_lem a.p a.cards (labels_of a) (stored_of a) && below) R.NotBelowP)
     more))
 
 -- 21: "card already in"; 22: "card not in". "where a length hangs on a participant outside 1 to n, that length is not tested".
-abbrev pub put_refusal_lem : Panel → ℕ → List ℕ → ℕ
+abbrev pub put_refusal_lem : Panel → ℕ → List ℕ → Result Unit Refusal
 put_refusal_lem a who shares =
     state_refusal a (not (within 1 a.n who) || eqb (length shares) (rows_of who (labels_of a))) (within 1 a.n who) (each_below a.p shares)
-    (unless (not (in_set a.cards who)) 21)
+    (unless (not (in_set a.cards who)) R.CardIn)
 
-abbrev pub take_refusal_lem : Panel → ℕ → ℕ
-take_refusal_lem a who = state_refusal a true (within 1 a.n who) true (unless (in_set a.cards who) 22)
+abbrev pub take_refusal_lem : Panel → ℕ → Result Unit Refusal
+take_refusal_lem a who = state_refusal a true (within 1 a.n who) true (unless (in_set a.cards who) R.CardNotIn)
 
 -- The participant's shares laid at their rows, in row order; the other places stay.
 unfoldable pub laid : ℕ → List ℕ → List ℕ → List ℕ → List ℕ
@@ -56,9 +58,9 @@ laid who (label ∷ labels) (y ∷ shares) (x ∷ stored) =
     cond (eqb label who) (y ∷ laid who labels shares stored) (x ∷ laid who labels (y ∷ shares) stored)
 
 -- "A refused call leaves the panel as it was."
-abbrev pub told_at : ℕ → Panel → Panel → Told
-told_at zero old new = record { said = outcome_at 0; panel = new }
-told_at (suc k) old new = record { said = outcome_at (suc k); panel = old }
+abbrev pub told_at : Result Unit Refusal → Panel → Panel → Told
+told_at (Ok u) old new = record { said = Ok tt; panel = new }
+told_at (Err k) old new = record { said = Err k; panel = old }
 
 -- "Putting in stores that participant's shares and marks the card". Meant where the card is out: 21 has been tried.
 abbrev pub with_card : Panel → ℕ → List ℕ → Panel
@@ -102,18 +104,5 @@ fresh_panel s labels entries = record {
   cards = 0;
   labels = over labels (replicate 32 0);
   entries = over entries (replicate 384 0);
-  stored = replicate 32 0;
-}
-
--- Zeros in every place: what stands beside a refusal to make a panel. Every call refuses it.
-abbrev pub blank_panel : Panel
-blank_panel = record {
-  p = 0;
-  n = 0;
-  d = 0;
-  e = 0;
-  cards = 0;
-  labels = replicate 32 0;
-  entries = replicate 384 0;
   stored = replicate 32 0;
 }

@@ -1,22 +1,18 @@
 -- What the panel's calls answer, for every input.
 -- Assumes nothing.
-use Rattle.std.specs.Prelude.{◌≡◌, List, ℕ, zero, suc}
+use Rattle.std.specs.Prelude.{◌≡◌, List, ℕ, Result, Ok, Err}
 use Rattle.scheme.specs.declared.Shape.{Shape}
-use Rattle.scheme.specs.Outcome.{outcome_at}
+use Rattle.scheme.specs.declared.Refusal.{Refusal}
 use Rattle.scheme.specs.Refusal.{check_refusal}
 use Rattle.join.specs.Says.{JoinSays}
 use Rattle.panel.specs.declared.Panel.{Panel}
-use Rattle.panel.specs.declared.Started.{Started}
 use Rattle.panel.specs.declared.Coded.{Coded}
-use Rattle.panel.specs.Cards.{shape_of, labels_of, entries_of, stored_of, blank_panel, fresh_panel}
+use Rattle.panel.specs.Cards.{shape_of, labels_of, entries_of, stored_of, fresh_panel}
 
--- A fresh panel; or refusals 1 to 7, with a panel of zeros beside them, which every call refuses.
-abbrev pub started_at : ℕ → Panel → Started
-started_at zero new = record { said = outcome_at 0; panel = new }
-started_at (suc k) new = record { said = outcome_at (suc k); panel = blank_panel }
-
-abbrev pub FreshSays : Shape → List ℕ → List ℕ → Started → Type 0
-FreshSays s labels entries a = a ≡ started_at (check_refusal s labels entries) (fresh_panel s labels entries)
+-- A fresh panel; or refusals 1 to 7, and no panel.
+abbrev pub FreshSays : Shape → List ℕ → List ℕ → Result Panel Refusal → Type 0
+FreshSays s labels entries (Ok a) = (check_refusal s labels entries ≡ Ok tt) × (a ≡ fresh_panel s labels entries)
+FreshSays s labels entries (Err k) = check_refusal s labels entries ≡ Err k
 
 -- "Asked for the code, the panel answers as joining does for the cards now in it", and stays as it was.
 pub record CodeSays (a : Panel) (told : Coded) : Type 0 where

@@ -2,14 +2,16 @@
 
 #![tactic(auto)]
 
-ghost use Rattle.std.specs.Prelude.{◌≡◌, ◌≤◌, ◌-◌, ◌^◌, length};
+ghost use Rattle.std.specs.Prelude.{◌≡◌, ◌≤◌, ◌-◌, ◌^◌, length, Ok, IfOk};
+ghost use Rattle.scheme.specs.Tests.{within, refused};
+ghost use Rattle.scheme.specs.Refusal.{numbers_refusal_lem};
 ghost use Rattle.scheme.specs.Outcome.{over};
-ghost use Rattle.panel.specs.Cards.{rows_of, laid, blank_panel, fresh_panel, put_refusal_lem, take_refusal_lem, put_in, taken_out};
+ghost use Rattle.panel.specs.Cards.{shape_of, labels_of, entries_of, stored_of, rows_of, laid, fresh_panel, put_refusal_lem, take_refusal_lem, put_in, taken_out};
+ghost use Rattle.join.specs.Says.{JoinSays};
 ghost use Rattle.panel.specs.Says.{FreshSays, CodeSays};
-ghost use Rattle.panel.specs.Steps.{places_right_lem, lists_refusal_lem, put_lists_refusal_lem, take_lists_refusal_lem};
+ghost use Rattle.panel.specs.Steps.{places_right_lem, lists_refusal_lem};
 
-use join::Joined;
-use scheme::{Outcome, Shape};
+use scheme::{Refusal, Scheme, Shape};
 
 // A panel's state. Of the labels and the stored shares the first d places are used, of the entries the first d times e.
 #[derive(Clone, Copy)]
@@ -24,40 +26,32 @@ pub struct Panel {
     pub stored: [u32; 32],
 }
 
-// What making a panel answers, and the panel: a fresh one, or one of zeros beside a refusal.
-#[derive(Drop)]
-pub struct Started {
-    pub said: Outcome,
-    pub panel: Panel,
-}
-
-// What putting in or taking out answers, and the panel after it.
-#[derive(Drop)]
+// What putting in or taking out answers, and the panel after it: document 01 hands the panel back beside a refusal too, so no Result of it.
+#[derive(Clone, Copy)]
 pub struct Told {
-    pub said: Outcome,
+    pub said: Result<(), Refusal>,
     pub panel: Panel,
 }
 
-// What the panel answers when asked for the code, and the panel after it.
-#[derive(Drop)]
+// What the panel answers when asked for the code, and the panel after it, which is handed back as above.
+#[derive(Clone, Copy)]
 pub struct Coded {
-    pub said: Joined,
+    pub said: Result<u32, Refusal>,
     pub panel: Panel,
+}
+
+// A panel's lists, of each as many places as are used.
+#[derive(Clone, Copy)]
+struct Lists<'a> {
+    scheme: Scheme<'a>,
+    stored: &'a [u32],
 }
 
 // How many rows the participant has.
 fn count_rows(who: u32, labels: &[u32]) -> usize
     ensures { result ≡ rows_of who labels.now }
 {
-    let mut k = 0;
-    let mut i = 0;
-    while i < labels.len() {
-        if labels[i] == who {
-            k += 1;
-        }
-        i += 1;
-    }
-    k
+    labels.iter().filter(|label| **label == who).count()
 }
 
 // Lays the participant's shares at their rows.
@@ -67,25 +61,11 @@ fn lay(who: u32, labels: &[u32], shares: &[u32], stored: &mut [u32])
     ensures { stored.new ≡ laid who labels.now shares.now stored.old }
 {
     let mut k = 0;
-    let mut i = 0;
-    while i < labels.len() {
-        if labels[i] == who {
+    for (i, label) in labels.iter().enumerate() {
+        if *label == who {
             stored[i] = shares[k];
             k += 1;
         }
-        i += 1;
-    }
-}
-
-// Copies a list over the first places of another.
-fn copy(from: &[u32], to: &mut [u32])
-    requires { length from.now ≤ length to.old }
-    ensures { to.new ≡ over from.now to.old }
-{
-    let mut k = 0;
-    while k < from.len() {
-        to[k] = from[k];
-        k += 1;
     }
 }
 
@@ -101,110 +81,34 @@ fn mark(who: u32) -> u32
 fn places_right(n: u32, who: u32, labels: &[u32], places: usize) -> bool
     ensures { result ≡ places_right_lem n who labels.now places }
 {
-    if !scheme::between(1, n as usize, who as usize) {
-        return true;
-    }
-    places == count_rows(who, labels)
+    !scheme::between(1, n as usize, who as usize) || places == count_rows(who, labels)
 }
 
-// Refusals 1 to 9 of a call on a panel with these parts.
+// Refusals 1 to 9 of a participant's call on a panel with these parts; `fits` and `below` say of the call's own shares that they are as many as
+// the participant has rows, and below p.
+#[tactic(auto, using(scheme::proofs::Refusals::refusal_more))]
 fn lists_refusal(
-    s: Shape,
-    labels: &[u32],
-    entries: &[u32],
+    scheme: Scheme<'_>,
     cards: u32,
     stored: &[u32],
+    who: u32,
     fits: bool,
-    among: bool,
     below: bool,
-) -> u32
-    requires { length stored.now ≡ s.d }
-    ensures { result ≡ lists_refusal_lem s labels.now entries.now cards stored.now fits among below 0 }
+) -> Result<(), Refusal>
+    requires { length stored.now ≡ scheme.shape.d }
+    ensures { result ≡ lists_refusal_lem scheme.entry.shape scheme.entry.labels.now scheme.entry.entries.now cards stored.now
+        fits (within 1 scheme.entry.shape.n who) below (Ok tt) }
 {
-    let bad = scheme::refusal(s, labels, entries, fits);
-    if bad != 0 {
-        return bad;
+    let checked = scheme.checked(fits)?;
+    let s = checked.shape;
+    sets::set_refusal(s.n, cards)?;
+    if !scheme::between(1, s.n as usize, who as usize) {
+        return Err(Refusal::Outsider);
     }
-    let outside = sets::set_refusal(s.n, cards);
-    if outside != 0 {
-        return outside;
+    if !sets::read_below(s.p, cards, checked.labels, stored) || !below {
+        return Err(Refusal::NotBelowP);
     }
-    if !among {
-        return 8;
-    }
-    if !sets::read_below(s.p, cards, labels, stored) {
-        return 9;
-    }
-    if !below {
-        return 9;
-    }
-    0
-}
-
-fn put_lists_refusal(
-    s: Shape,
-    labels: &[u32],
-    entries: &[u32],
-    cards: u32,
-    stored: &[u32],
-    who: u32,
-    shares: &[u32],
-) -> u32
-    requires { length stored.now ≡ s.d }
-    ensures { result ≡ put_lists_refusal_lem s labels.now entries.now cards stored.now who shares.now }
-{
-    let among = scheme::between(1, s.n as usize, who as usize);
-    let fits = places_right(s.n, who, labels, shares.len());
-    let below = scheme::all_below(s.p, shares);
-    let bad = lists_refusal(s, labels, entries, cards, stored, fits, among, below);
-    if bad != 0 {
-        return bad;
-    }
-    if sets::in_set(cards, who) {
-        return 21;
-    }
-    0
-}
-
-fn take_lists_refusal(
-    s: Shape,
-    labels: &[u32],
-    entries: &[u32],
-    cards: u32,
-    stored: &[u32],
-    who: u32,
-) -> u32
-    requires { length stored.now ≡ s.d }
-    ensures { result ≡ take_lists_refusal_lem s labels.now entries.now cards stored.now who }
-{
-    let among = scheme::between(1, s.n as usize, who as usize);
-    let bad = lists_refusal(s, labels, entries, cards, stored, true, among, true);
-    if bad != 0 {
-        return bad;
-    }
-    if !sets::in_set(cards, who) {
-        return 22;
-    }
-    0
-}
-
-// A panel of zeros.
-fn blank() -> Panel
-    ensures { result ≡ blank_panel }
-{
-    let labels = [0u32; 32];
-    let entries = [0u32; 384];
-    let stored = [0u32; 32];
-    Panel {
-        p: 0,
-        n: 0,
-        d: 0,
-        e: 0,
-        cards: 0,
-        labels: labels,
-        entries: entries,
-        stored: stored,
-    }
+    Ok(())
 }
 
 // A panel without cards, its lists copied.
@@ -212,11 +116,10 @@ fn filled(s: Shape, labels: &[u32], entries: &[u32]) -> Panel
     requires { (length labels.now ≤ 32) × (length entries.now ≤ 384) }
     ensures { result ≡ fresh_panel s labels.now entries.now }
 {
-    let mut own_labels = [0u32; 32];
-    let mut own_entries = [0u32; 384];
-    let stored = [0u32; 32];
-    copy(labels, &mut own_labels);
-    copy(entries, &mut own_entries);
+    let mut own_labels = [0; 32];
+    let mut own_entries = [0; 384];
+    own_labels[..labels.len()].copy_from_slice(labels);
+    own_entries[..entries.len()].copy_from_slice(entries);
     Panel {
         p: s.p,
         n: s.n,
@@ -225,152 +128,127 @@ fn filled(s: Shape, labels: &[u32], entries: &[u32]) -> Panel
         cards: 0,
         labels: own_labels,
         entries: own_entries,
-        stored: stored,
+        stored: [0; 32],
     }
 }
 
 // Makes a panel from a scheme. Wrong answers that the contract rules out: a panel with a scheme that checking refuses; one with a card in it.
-pub fn fresh(s: Shape, labels: &[u32], entries: &[u32]) -> Started
-    ensures { FreshSays s labels.now entries.now result }
+pub fn fresh(scheme: Scheme<'_>) -> Result<Panel, Refusal>
+    ensures { FreshSays scheme.entry.shape scheme.entry.labels.now scheme.entry.entries.now result }
 {
-    let bad = scheme::refusal(s, labels, entries, true);
-    if bad != 0 {
-        let none = blank();
-        return Started {
-            said: Outcome::Refused(bad),
-            panel: none,
-        };
-    }
-    let panel = filled(s, labels, entries);
-    Started {
-        said: Outcome::Done,
-        panel: panel,
-    }
+    let checked = scheme.checked(true)?;
+    Ok(filled(checked.shape, checked.labels, checked.entries))
 }
 
 impl Panel {
-    fn put_refusal(self, who: u32, shares: &[u32]) -> u32
-        ensures { result ≡ put_refusal_lem self who shares.now }
+    // The four numbers of its scheme.
+    fn shape(&self) -> Shape
+        ensures { result ≡ shape_of self.now }
     {
-        let d = self.d;
-        let e = self.e;
-        let s = Shape {
-            p: self.p,
-            n: self.n,
-            d: d,
-            e: e,
-        };
-        let bad = scheme::numbers_refusal(s);
-        if bad != 0 {
-            return bad;
-        }
-        let m = d * e;
-        let labels = self.labels;
-        let entries = self.entries;
-        let stored = self.stored;
-        put_lists_refusal(
-            s,
-            &labels[0..d],
-            &entries[0..m],
-            self.cards,
-            &stored[0..d],
-            who,
-            shares,
-        )
-    }
-
-    fn take_refusal(self, who: u32) -> u32
-        ensures { result ≡ take_refusal_lem self who }
-    {
-        let d = self.d;
-        let e = self.e;
-        let s = Shape {
-            p: self.p,
-            n: self.n,
-            d: d,
-            e: e,
-        };
-        let bad = scheme::numbers_refusal(s);
-        if bad != 0 {
-            return bad;
-        }
-        let m = d * e;
-        let labels = self.labels;
-        let entries = self.entries;
-        let stored = self.stored;
-        take_lists_refusal(
-            s,
-            &labels[0..d],
-            &entries[0..m],
-            self.cards,
-            &stored[0..d],
-            who,
-        )
-    }
-
-    // Puts a card in. Wrong answers that the contract rules out: a mark without the shares stored; shares stored at another participant's rows;
-    // a changed panel beside a refusal.
-    pub fn put(self, who: u32, shares: &[u32]) -> Told
-        ensures { result ≡ put_in self who shares.now }
-    {
-        let bad = self.put_refusal(who, shares);
-        if bad != 0 {
-            return Told {
-                said: Outcome::Refused(bad),
-                panel: self,
-            };
-        }
-        let d = self.d;
-        let labels = self.labels;
-        let entries = self.entries;
-        let mut stored = self.stored;
-        lay(who, &labels[0..d], shares, &mut stored);
-        let cards = self.cards + mark(who);
-        let panel = Panel {
-            p: self.p,
-            n: self.n,
-            d: d,
-            e: self.e,
-            cards: cards,
-            labels: labels,
-            entries: entries,
-            stored: stored,
-        };
-        Told {
-            said: Outcome::Done,
-            panel: panel,
-        }
-    }
-
-    // Takes a card out. Wrong answers that the contract rules out: another card taken out too; a stored share changed.
-    pub fn take(self, who: u32) -> Told
-        ensures { result ≡ taken_out self who }
-    {
-        let bad = self.take_refusal(who);
-        if bad != 0 {
-            return Told {
-                said: Outcome::Refused(bad),
-                panel: self,
-            };
-        }
-        let left = self.cards - mark(who);
-        let labels = self.labels;
-        let entries = self.entries;
-        let kept = self.stored;
-        let panel = Panel {
+        Shape {
             p: self.p,
             n: self.n,
             d: self.d,
             e: self.e,
-            cards: left,
-            labels: labels,
-            entries: entries,
-            stored: kept,
-        };
-        Told {
-            said: Outcome::Done,
-            panel: panel,
         }
+    }
+
+    // Its scheme and the shares that it stores, of each list as many places as are used, where refusals 1 to 4 are not given.
+    #[tactic(auto, using(scheme::proofs::Refusals::rows_few, crate::proofs::Refused::rows_at_most))]
+    fn lists(&self) -> Result<Lists<'_>, Refusal>
+        ensures refusal { refused result ≡ numbers_refusal_lem (shape_of self.now) }
+        ensures lists { IfOk result (λ l. (l.scheme.shape ≡ shape_of self.now) × (l.scheme.labels.now ≡ labels_of self.now)
+            × (l.scheme.entries.now ≡ entries_of self.now) × (l.stored.now ≡ stored_of self.now)
+            × (length l.stored.now ≡ self.now.d)) }
+    {
+        let shape = self.shape();
+        scheme::numbers_refusal(shape)?;
+        Ok(Lists {
+            scheme: Scheme {
+                shape,
+                labels: &self.labels[0..self.d],
+                entries: &self.entries[0..self.d * self.e],
+            },
+            stored: &self.stored[0..self.d],
+        })
+    }
+
+    #[tactic(auto, using(crate::proofs::Refused::lists_on, crate::proofs::Refused::who_inside), unfolding(scheme::specs::Refusal::refusal_of))]
+    fn put_refusal(&self, who: u32, shares: &[u32]) -> Result<(), Refusal>
+        ensures { result ≡ put_refusal_lem self.now who shares.now }
+    {
+        let l = self.lists()?;
+        let fits = places_right(self.n, who, l.scheme.labels, shares.len());
+        let below = scheme::all_below(self.p, shares);
+        lists_refusal(l.scheme, self.cards, l.stored, who, fits, below)?;
+        if sets::in_set(self.cards, who) {
+            return Err(Refusal::CardIn);
+        }
+        Ok(())
+    }
+
+    #[tactic(auto, using(crate::proofs::Refused::lists_on, crate::proofs::Refused::who_inside), unfolding(scheme::specs::Refusal::refusal_of))]
+    fn take_refusal(&self, who: u32) -> Result<(), Refusal>
+        ensures { result ≡ take_refusal_lem self.now who }
+    {
+        let l = self.lists()?;
+        lists_refusal(l.scheme, self.cards, l.stored, who, true, true)?;
+        if !sets::in_set(self.cards, who) {
+            return Err(Refusal::CardNotIn);
+        }
+        Ok(())
+    }
+
+    // Puts a card in. Wrong answers that the contract rules out: a mark without the shares stored; shares stored at another participant's rows;
+    // a changed panel beside a refusal.
+    #[tactic(auto, using(crate::proofs::Refused::put_accepted))]
+    pub fn put(self, who: u32, shares: &[u32]) -> Told
+        ensures { result ≡ put_in self who shares.now }
+    {
+        if let Err(k) = self.put_refusal(who, shares) {
+            return Told {
+                said: Err(k),
+                panel: self,
+            };
+        }
+        let mut stored = self.stored;
+        lay(who, &self.labels[0..self.d], shares, &mut stored);
+        let cards = self.cards + mark(who);
+        Told {
+            said: Ok(()),
+            panel: Panel {
+                cards,
+                stored,
+                ..self
+            },
+        }
+    }
+
+    // Takes a card out. Wrong answers that the contract rules out: another card taken out too; a stored share changed.
+    #[tactic(auto, using(crate::proofs::Refused::take_accepted))]
+    pub fn take(self, who: u32) -> Told
+        ensures { result ≡ taken_out self who }
+    {
+        if let Err(k) = self.take_refusal(who) {
+            return Told {
+                said: Err(k),
+                panel: self,
+            };
+        }
+        let cards = self.cards - mark(who);
+        Told {
+            said: Ok(()),
+            panel: Panel { cards, ..self },
+        }
+    }
+
+    // What joining says of the cards that are in.
+    #[tactic(auto, using(crate::proofs::Refused::joined_early))]
+    fn joined(&self) -> Result<u32, Refusal>
+        ensures { JoinSays (shape_of self.now) (labels_of self.now) (entries_of self.now) self.now.cards (stored_of self.now) result }
+    {
+        let l = self.lists()?;
+        join::join(l.scheme, self.cards, l.stored)
     }
 
     // The code of the cards that are in. Wrong answers that the contract rules out: an answer that hangs on a share whose card is out; a code
@@ -378,28 +256,8 @@ impl Panel {
     pub fn code(self) -> Coded
         ensures { CodeSays self result }
     {
-        let d = self.d;
-        let e = self.e;
-        let s = Shape {
-            p: self.p,
-            n: self.n,
-            d: d,
-            e: e,
-        };
-        let bad = scheme::numbers_refusal(s);
-        if bad != 0 {
-            return Coded {
-                said: Joined::Refused(bad),
-                panel: self,
-            };
-        }
-        let m = d * e;
-        let labels = self.labels;
-        let entries = self.entries;
-        let stored = self.stored;
-        let said = join::join(s, &labels[0..d], &entries[0..m], self.cards, &stored[0..d]);
         Coded {
-            said: said,
+            said: self.joined(),
             panel: self,
         }
     }

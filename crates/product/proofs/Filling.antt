@@ -1,10 +1,9 @@
 -- The product rows as the loops fill them in.
 -- Assumes nothing.
-use mathlib.Core.Path.{◌≡◌, refl, sym, ap, ◌∙◌}
+use mathlib.Core.Path.{◌≡◌, sym, ap, ◌∙◌}
 use mathlib.Core.List.{List}
 use mathlib.Core.Logic.{⊎_elim}
 use Prim.Native.Nat.{ℕ, ◌<◌, ◌≤◌, ◌+◌, ◌-◌, ◌*◌, ◌%◌}
-use native.Mathlib.Nat.{mul-le-mul}
 use native.Mathlib.Numerals.{add-one}
 use native.Mathlib.Omega.{arith}
 use lib.ListN.{length}
@@ -12,8 +11,8 @@ use Rattle.algebra.proofs.Cases.{lt_or_ge, below_suc}
 use Rattle.lists.proofs.Store.{row_fits}
 use Rattle.linear.specs.Flat.{place, entry}
 use Rattle.linear.specs.Product.{pairs, products, product_rows_lem}
-use Rattle.products.proofs.Pairs.{product_at, pairs_rest, pairs_whole, next_row, last_row}
-use Rattle.product.specs.Steps.{Multiples, RowOfProducts, RowsOfProducts}
+use Rattle.products.proofs.Pairs.{product_at, next_row}
+use Rattle.product.specs.Steps.{Multiples, RowOfProducts}
 
 -- The products that begin with the first j numbers of row k are in their places, which end before b.
 pub record Rowing (p e k at : ℕ) (entries a₀ a : List ℕ) (b j : ℕ) : Type 0 where
@@ -25,20 +24,6 @@ pub record Rowing (p e k at : ℕ) (entries a₀ a : List ℕ) (b j : ℕ) : Typ
   pub before : (i : ℕ) → i < at → place a i ≡ place a₀ i
 
 module _ (p e k at : ℕ) (entries a₀ : List ℕ) where
-  pub rowing_start : Rowing p e k at entries a₀ a₀ at 0
-  rowing_start = record {
-    upto = omega arith;
-    size = refl;
-    from = omega arith;
-    next = omega (arith, pairs_whole e);
-    done = λ i l. absurd (omega arith);
-    before = λ i l. refl;
-  }
-
-  -- There is room for the products that begin with the next number.
-  pub rowing_room : (a : List ℕ) (b j : ℕ) → Rowing p e k at entries a₀ a b j → j < e → at + pairs e ≤ length a₀ → b + (e - j) ≤ length a
-  rowing_room a b j h l room = omega (arith, h.size, h.next, pairs_rest e j l)
-
   pub rowing_turn : (a a' : List ℕ) (b j : ℕ) → Rowing p e k at entries a₀ a b j → j < e → Multiples p e k j b entries a a'
       → Rowing p e k at entries a₀ a' (b + (e - j)) (j + 1)
   rowing_turn a a' b j h l m = record {
@@ -59,13 +44,6 @@ module _ (p e k at : ℕ) (entries a₀ : List ℕ) where
           ∙ ap (λ (x : ℕ). x % p)
           (sym (product_at e (entry e entries k) j (j + n) i (omega arith) (omega arith) (omega (arith, h.next, h.from))))
 
-  pub rowing_end : (a : List ℕ) (b j : ℕ) → Rowing p e k at entries a₀ a b j → e ≤ j → RowOfProducts p e k at entries a₀ a
-  rowing_end a b j h l =
-      let s : j ≡ e = omega (arith, h.upto) in
-      let w : b - at + pairs (e - e) ≡ pairs e = omega (arith, h.next, h.from, ap (λ (x : ℕ). pairs (e - x)) s) in
-      let q = last_row e (b - at) w in
-      record { size = h.size; here = λ i li. h.done i (omega (arith, h.from)); before = h.before }
-
 -- The product rows of the first k rows are in their places.
 pub record Filling (p d e : ℕ) (entries a₀ a : List ℕ) (k : ℕ) : Type 0 where
   pub upto : k ≤ d
@@ -73,9 +51,6 @@ pub record Filling (p d e : ℕ) (entries a₀ a : List ℕ) (k : ℕ) : Type 0 
   pub done : (l : ℕ) → l < k → (i : ℕ) → i < pairs e → entry (pairs e) a l i ≡ product_rows_lem p e (entry e entries) l i
 
 module _ (p d e : ℕ) (entries a₀ : List ℕ) where
-  pub filling_start : Filling p d e entries a₀ a₀ 0
-  filling_start = record { upto = omega arith; size = refl; done = λ l m. absurd (omega arith) }
-
   pub filling_turn : (a a' : List ℕ) (k q : ℕ) → Filling p d e entries a₀ a k → k < d → q ≡ pairs e → RowOfProducts p e k (k * q) entries a a'
       → Filling p d e entries a₀ a' (k + 1)
   filling_turn a a' k q h l s r = record {
@@ -87,13 +62,3 @@ module _ (p d e : ℕ) (entries a₀ : List ℕ) where
         ∙ ap (λ (x : ℕ). place a (n * x + i)) s ∙ h.done n ln i li)
         (λ i li. ap (λ (x : ℕ). place a' (k * x + i)) (sym s) ∙ r.here i li));
   }
-
-  pub filling_end : (a : List ℕ) (k : ℕ) → Filling p d e entries a₀ a k → d ≤ k → RowsOfProducts p d e entries a₀ a
-  filling_end a k h l = record { size = h.size; rows = λ n i ln li. h.done n (omega (arith, h.upto)) i li }
-
--- The working space.
-pub pairs_few : (e : ℕ) → e ≤ 12 → pairs e ≤ 78
-pairs_few e l = let h = mul-le-mul {n₁ = e} {m₁ = e + 1} {n₂ = 12} {m₂ = 13} l (omega arith) in omega arith
-
-pub products_few : (d e q : ℕ) → d ≤ 32 → e ≤ 12 → q ≡ pairs e → d * q ≤ 2496
-products_few d e q ld le s = mul-le-mul {n₁ = d} {m₁ = q} {n₂ = 32} {m₂ = 78} ld (omega (arith, pairs_few e le))

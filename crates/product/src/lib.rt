@@ -2,23 +2,24 @@
 
 #![tactic(auto)]
 
-ghost use Rattle.std.specs.Prelude.{◌≡◌, ◌&&◌, ℕ, ◌<◌, ◌≤◌, ◌+◌, ◌-◌, ◌*◌, eqb, length};
-ghost use Rattle.residue.specs.Prime.{Prime};
+ghost use Rattle.std.specs.Prelude.{◌≡◌, ◌&&◌, ◌<◌, ◌≤◌, ◌+◌, ◌-◌, ◌*◌, eqb, length, IfOk};
 ghost use Rattle.linear.specs.Flat.{entry};
 ghost use Rattle.linear.specs.Product.{pairs, product_rows_lem, every};
 ghost use Rattle.linear.specs.Rows.{Handed};
+ghost use Rattle.scheme.specs.Tests.{refused};
+ghost use Rattle.scheme.specs.Checked.{IsOf};
 ghost use Rattle.scheme.specs.Refusal.{product_refusal_lem};
 ghost use Rattle.product.specs.Says.{ProductSays};
 ghost use Rattle.product.specs.Steps.{Multiples, RowOfProducts, RowsOfProducts};
 
-use scheme::Shape;
+use residue::Modulus;
+use scheme::{Checked, Refusal, Scheme, Shape};
 
-// Yes with r, no with w, or refused with the paper's number.
-#[derive(Drop)]
+// Yes with r, or no with w.
+#[derive(Clone, Copy, Debug, PartialEq, Eq)]
 pub enum Verdict {
     Yes,
     No,
-    Refused(u32),
 }
 
 // The number of pairs j up to k of the columns.
@@ -33,148 +34,88 @@ fn pairs_of(e: usize) -> usize
 fn places_fit(s: Shape, rplaces: usize, wplaces: usize) -> bool
     ensures { s.e ≤ 12 → result ≡ (eqb rplaces s.d && eqb wplaces (pairs s.e)) }
 {
-    let e = s.e;
-    if 12 < e {
-        return false;
-    }
-    let q = pairs_of(e);
-    scheme::both_same(rplaces, s.d, wplaces, q)
+    s.e <= 12 && rplaces == s.d && wplaces == pairs_of(s.e)
 }
 
-fn product_refusal(s: Shape, labels: &[u32], entries: &[u32], rplaces: usize, wplaces: usize) -> u32
-    ensures { result ≡ product_refusal_lem s labels.now entries.now rplaces wplaces }
+// The scheme, where nothing is refused.
+fn admitted<'a>(scheme: Scheme<'a>, rplaces: usize, wplaces: usize) -> Result<Checked<'a>, Refusal>
+    ensures refusal { refused result ≡ product_refusal_lem scheme.entry.shape scheme.entry.labels.now scheme.entry.entries.now rplaces wplaces }
+    ensures same { IfOk result (IsOf scheme.entry.shape scheme.entry.labels.now scheme.entry.entries.now) }
+    ensures places { IfOk result (λ c. (rplaces ≡ c.shape.d) × (wplaces ≡ pairs c.shape.e)) }
 {
-    let fits = places_fit(s, rplaces, wplaces);
-    scheme::refusal(s, labels, entries, fits)
+    scheme.checked(places_fit(scheme.shape, rplaces, wplaces))
 }
 
 // Number j of row k times itself and times each number after it, from place `at` on.
-fn multiples(p: u32, e: usize, k: usize, j: usize, entries: &[u32], at: usize, a: &mut [u32])
-    requires { (0 < p) × (j < e) × (k * e + e ≤ length entries.now) × (at + (e - j) ≤ length a.old) }
-    ensures { Multiples p e k j at entries.now a.old a.new }
+fn multiples(scheme: Checked<'_>, k: usize, j: usize, at: usize, a: &mut [u32])
+    requires { (k * scheme.shape.e + scheme.shape.e ≤ length scheme.entries.now) × (j < scheme.shape.e) × (at + (scheme.shape.e - j) ≤ length a.old) }
+    ensures { Multiples scheme.entry.shape.p scheme.entry.shape.e k j at scheme.entry.entries.now a.old a.new }
 {
-    let first = k * e + j;
-    let n = e - j;
-    let x = entries[first];
-    let mut i = 0;
-    while i < n {
-        let y = entries[first + i];
-        a[at + i] = residue::mul(p, x, y);
-        i += 1;
+    let Shape { p, e, .. } = scheme.shape;
+    let m = Modulus::new(p);
+    let row = k * e;
+    let from = &scheme.entries[row + j..row + e];
+    let x = from[0];
+    for (i, y) in from.iter().enumerate() {
+        a[at + i] = m.mul(x, *y);
     }
 }
 
 // The product row of row k, from place `at` on: 1-1, 1-2, .., 1-e, 2-2, and so on.
-fn product_row(p: u32, e: usize, k: usize, entries: &[u32], at: usize, a: &mut [u32])
-    requires { (0 < p) × (k * e + e ≤ length entries.now) × (at + pairs e ≤ length a.old) }
-    ensures { RowOfProducts p e k at entries.now a.old a.new }
+fn product_row(scheme: Checked<'_>, k: usize, at: usize, a: &mut [u32])
+    requires { (k < scheme.shape.d) × (at + pairs scheme.shape.e ≤ length a.old) }
+    ensures { RowOfProducts scheme.entry.shape.p scheme.entry.shape.e k at scheme.entry.entries.now a.old a.new }
 {
+    let e = scheme.shape.e;
     let mut b = at;
-    let mut j = 0;
-    while j < e {
-        multiples(p, e, k, j, entries, b, &mut *a);
+    for j in 0..e {
+        multiples(scheme, k, j, b, a);
         b += e - j;
-        j += 1;
     }
 }
 
 // The product rows of all rows, one after another.
-fn product_rows(p: u32, d: usize, e: usize, q: usize, entries: &[u32], a: &mut [u32])
-    requires { (0 < p) × (q ≡ pairs e) × (length entries.now ≡ d * e) × (length a.old ≡ d * q) }
-    ensures { RowsOfProducts p d e entries.now a.old a.new }
+fn product_rows(scheme: Checked<'_>, q: usize, a: &mut [u32])
+    requires { (q ≡ pairs scheme.shape.e) × (length a.old ≡ scheme.shape.d * q) }
+    ensures { RowsOfProducts scheme.entry.shape.p scheme.entry.shape.d scheme.entry.shape.e scheme.entry.entries.now a.old a.new }
 {
-    let mut k = 0;
-    while k < d {
-        product_row(p, e, k, entries, k * q, &mut *a);
-        k += 1;
+    for k in 0..scheme.shape.d {
+        product_row(scheme, k, k * q, a);
     }
 }
 
-// The question of the product rows, with its working space lent.
-fn product_in(
-    p: u32,
-    d: usize,
-    e: usize,
-    q: usize,
-    entries: &[u32],
-    table: &mut [u32],
-    columns: &mut [u32],
-    duals: &mut [u32],
-    t: &mut [u32],
-    u: &mut [u32],
-    c: &mut [u32],
-    r: &mut [u32],
-    w: &mut [u32],
-) -> bool
-    requires prime { Prime p }
-    requires le_e { (1 ≤ e) × (q ≡ pairs e) × (length entries.now ≡ d * e) × (length table.old ≡ d * q) × (length columns.old ≡ q * d)
-        × (length duals.old ≡ q * d) × (d ≤ length t.old) × (q ≤ length t.old) × (d ≤ length u.old) × (q ≤ length u.old)
-        × (length c.old ≡ q) × (length r.old ≡ d) × (length w.old ≡ q) }
-    ensures { Handed p d (pairs e) (product_rows_lem p e (entry e entries.now)) every r.old w.old result
+// The question of the product rows, of which there are at most 32, of 78 products.
+#[tactic(auto, using(crate::proofs::Says::table_answers))]
+fn product_of(scheme: Checked<'_>, r: &mut [u32], w: &mut [u32]) -> bool
+    requires { (length r.old ≡ scheme.shape.d) × (length w.old ≡ pairs scheme.shape.e) }
+    ensures { Handed scheme.entry.shape.p scheme.entry.shape.d (pairs scheme.entry.shape.e)
+        (product_rows_lem scheme.entry.shape.p scheme.entry.shape.e (entry scheme.entry.shape.e scheme.entry.entries.now)) every r.old w.old result
         r.new w.new }
 {
-    product_rows(p, d, e, q, entries, &mut *table);
-    tables::ask(p, d, q, table, columns, duals, t, u, c, r, w)
-}
-
-// 32 rows of 78 products.
-fn space() -> [u32; 2496]
-    ensures { length result ≡ 2496 }
-{
-    [0u32; 2496]
-}
-
-fn line() -> [u32; 78]
-    ensures { length result ≡ 78 }
-{
-    [0u32; 78]
-}
-
-// The question of the product rows, with working space of its own.
-fn product_of(p: u32, d: usize, e: usize, entries: &[u32], r: &mut [u32], w: &mut [u32]) -> bool
-    requires prime { Prime p }
-    requires d_bound { (d ≤ 32) × (1 ≤ e) × (e ≤ 12) × (length entries.now ≡ d * e) × (length r.old ≡ d) × (length w.old ≡ pairs e) }
-    ensures { Handed p d (pairs e) (product_rows_lem p e (entry e entries.now)) every r.old w.old result
-        r.new w.new }
-{
+    let Shape { p, d, e, .. } = scheme.shape;
     let q = pairs_of(e);
     let n = d * q;
-    let mut table = space();
-    let mut columns = space();
-    let mut duals = space();
-    let mut t = line();
-    let mut u = line();
-    let mut c = line();
-    product_in(
-        p,
-        d,
-        e,
-        q,
-        entries,
-        &mut table[0..n],
-        &mut columns[0..n],
-        &mut duals[0..n],
-        &mut t,
-        &mut u,
-        &mut c[0..q],
-        r,
-        w,
-    )
+    let table = &mut [0u32; 2496][..n];
+    let columns = &mut [0u32; 2496][..n];
+    let duals = &mut [0u32; 2496][..n];
+    let t = &mut [0u32; 78];
+    let u = &mut [0u32; 78];
+    let c = &mut [0u32; 78][..q];
+    product_rows(scheme, q, table);
+    tables::ask(p, d, q, table, columns, duals, t, u, c, r, w)
 }
 
 // Is there an r such that, for any two dealings, r times the products of their shares adds up to the product of the secrets, modulo p? Wrong
 // answers that the contract rules out: a yes that looks at the squares of the entries alone and forgets the cross terms; a no with a w that some product
 // row does not kill.
-pub fn product(s: Shape, labels: &[u32], entries: &[u32], r: &mut [u32], w: &mut [u32]) -> Verdict
-    ensures { ProductSays s labels.now entries.now r.old w.old result r.new
+#[tactic(auto, using(crate::proofs::Says::says_refused, crate::proofs::Says::says_yes, crate::proofs::Says::says_no))]
+pub fn product(scheme: Scheme<'_>, r: &mut [u32], w: &mut [u32]) -> Result<Verdict, Refusal>
+    ensures { ProductSays scheme.entry.shape scheme.entry.labels.now scheme.entry.entries.now r.old w.old result r.new
         w.new }
 {
-    let bad = product_refusal(s, labels, entries, r.len(), w.len());
-    if bad != 0 {
-        return Verdict::Refused(bad);
+    let checked = admitted(scheme, r.len(), w.len())?;
+    if product_of(checked, r, w) {
+        return Ok(Verdict::Yes);
     }
-    if product_of(s.p, s.d, s.e, entries, r, w) {
-        return Verdict::Yes;
-    }
-    Verdict::No
+    Ok(Verdict::No)
 }

@@ -86,7 +86,7 @@ from_tag Open h = refl
 from_tag Close h = refl
 from_tag Other h = refl
 
-same_kind : (k j : Kind) → 0 < tag j → tag k ≡ tag j → k ≡ j
+pub same_kind : (k j : Kind) → 0 < tag j → tag k ≡ tag j → k ≡ j
 same_kind k j h e = sym (from_tag k (omega arith)) ∙ ap kind_from e ∙ from_tag j h
 
 -- A sign and its byte.

@@ -12,8 +12,7 @@ use borrow.Author.Tests.{ltb-true, ltb-false, le-leb, ne_eqb}
 use Rattle.rules.specs.Tree.{Rule, Term, Atom, term, ◌or◌, atom, ◌and◌, number, group, choice}
 use Rattle.rules.specs.Text.{bar, ampersand, opening, closing, numeral, rule_text, term_text, atom_text, WellRule, WellTerm, WellAtom}
 use Rattle.reader.specs.declared.Kind.{Kind}
-use Rattle.reader.specs.declared.Read.{Read}
-use Rattle.reader.specs.declared.Read.TheVariants.{At}
+use Rattle.std.specs.Prelude.{Option, Some}
 use Rattle.reader.specs.Grammar.{class_of, kind_at, tag, digit, number_end_lem, after, rule_end, term_end, atom_end}
 use Rattle.reader.proofs.Places.{rule_step, term_step}
 use Rattle.reader.proofs.Begins.{
@@ -57,29 +56,29 @@ nothing_follows = record { as_term = record { no_digit = tt; no_and = tt }; no_o
 
 -- Parts joined by a sign, for a rule and for a term alike: the last part x; a part x and the others y.
 module _
-    (inner outer : ℕ → List ℕ → ℕ → ℕ → Read)
+    (inner outer : ℕ → List ℕ → ℕ → ℕ → Option ℕ)
     {k : Kind}
     {byte : ℕ}
     (sign : Sign k byte)
     (step : (n : ℕ) (s : List ℕ) (d at : ℕ) → outer (suc n) s d at
-    ≡ after (inner n s d at) (λ q. cond (eqb (tag (kind_at s q)) (tag k)) (outer n s d (q + 1)) (At q)))
-    (n : ℕ) (s : List ℕ) (d at : ℕ) (x : List ℕ) (first : inner n s d at ≡ At (at + length x)) where
-  last_ends : (z : List ℕ) → drop at s ≡ x ++ z → Not byte z → outer (suc n) s d at ≡ At (at + length x)
+    ≡ after (inner n s d at) (λ q. cond (eqb (tag (kind_at s q)) (tag k)) (outer n s d (q + 1)) (Some q)))
+    (n : ℕ) (s : List ℕ) (d at : ℕ) (x : List ℕ) (first : inner n s d at ≡ Some (at + length x)) where
+  last_ends : (z : List ℕ) → drop at s ≡ x ++ z → Not byte z → outer (suc n) s d at ≡ Some (at + length x)
   last_ends z e o = rw (step, first, sign_false sign s (at + length x) z (past s at x z e) o)
 
   more_ends : (y z : List ℕ) → drop at s ≡ (x ++ (byte ∷ y)) ++ z
-      → (drop (at + length x + 1) s ≡ y ++ z → outer n s d (at + length x + 1) ≡ At (at + length x + 1 + length y))
-      → outer (suc n) s d at ≡ At (at + length (x ++ (byte ∷ y)))
+      → (drop (at + length x + 1) s ≡ y ++ z → outer n s d (at + length x + 1) ≡ Some (at + length x + 1 + length y))
+      → outer (suc n) s d at ≡ Some (at + length (x ++ (byte ∷ y)))
   more_ends y z e rest =
       let here : drop (at + length x) s ≡ byte ∷ (y ++ z) = past s at x (byte ∷ (y ++ z)) (e ∙ append_assoc x (byte ∷ y) z) in
       let size : at + length x + 1 + length y ≡ at + length (x ++ (byte ∷ y)) = omega (arith, length-append x (byte ∷ y)) in
       rw (step, first, sign_true sign s (at + length x) (y ++ z) here)
-      (rest (past s (at + length x) (byte ∷ []) (y ++ z) here) ∙ ap (λ (m : ℕ). At m) size)
+      (rest (past s (at + length x) (byte ∷ []) (y ++ z) here) ∙ ap (λ (m : ℕ). Some m) size)
 
 module _ (n : ℕ) (s : List ℕ) (d at : ℕ) where
   group_ends : (x z : List ℕ) → drop at s ≡ (opening ∷ (x ++ (closing ∷ []))) ++ z → 1 ≤ d
-      → (drop (at + 1) s ≡ x ++ (closing ∷ z) → rule_end n s (d - 1) (at + 1) ≡ At (at + 1 + length x))
-      → atom_end (suc n) s d at ≡ At (at + length (opening ∷ (x ++ (closing ∷ []))))
+      → (drop (at + 1) s ≡ x ++ (closing ∷ z) → rule_end n s (d - 1) (at + 1) ≡ Some (at + 1 + length x))
+      → atom_end (suc n) s d at ≡ Some (at + length (opening ∷ (x ++ (closing ∷ []))))
   unfolding atom_end
   group_ends x z e l inside =
       let here : drop at s ≡ opening ∷ (x ++ (closing ∷ z)) = e ∙ ap (λ (y : List ℕ). opening ∷ y) (append_assoc x (closing ∷ []) z) in
@@ -91,9 +90,9 @@ module _ (n : ℕ) (s : List ℕ) (d at : ℕ) where
         ne_eqb d 0 (λ z. omega arith),
         inside next,
         sign_true close_sign s (at + 1 + length x) z (past s (at + 1) x (closing ∷ z) next),
-      ) (ap (λ (m : ℕ). At m) size)
+      ) (ap (λ (m : ℕ). Some m) size)
 
-  one_digit_ends : (i : ℕ) (z : List ℕ) → drop at s ≡ (48 + i) ∷ z → 1 ≤ i → i ≤ 9 → NoDigit z → atom_end (suc n) s d at ≡ At (at + 1)
+  one_digit_ends : (i : ℕ) (z : List ℕ) → drop at s ≡ (48 + i) ∷ z → 1 ≤ i → i ≤ 9 → NoDigit z → atom_end (suc n) s d at ≡ Some (at + 1)
   unfolding atom_end number_end_lem
   one_digit_ends i z e l u stop =
       rw (
@@ -102,7 +101,7 @@ module _ (n : ℕ) (s : List ℕ) (d at : ℕ) where
         digit_false s (at + 1) z (past s at ((48 + i) ∷ []) z e) stop,
       )
 
-  two_digits_end : (i : ℕ) (z : List ℕ) → drop at s ≡ 49 ∷ (38 + i) ∷ z → 10 ≤ i → i ≤ 16 → atom_end (suc n) s d at ≡ At (at + 2)
+  two_digits_end : (i : ℕ) (z : List ℕ) → drop at s ≡ 49 ∷ (38 + i) ∷ z → 10 ≤ i → i ≤ 16 → atom_end (suc n) s d at ≡ Some (at + 2)
   unfolding atom_end number_end_lem
   two_digits_end i z e l u =
       let second = digit_class (38 + i) (omega arith) (omega arith) in
@@ -115,12 +114,12 @@ module _ (n : ℕ) (s : List ℕ) (d at : ℕ) where
       )
 
   pub number_ends : (i : ℕ) (z : List ℕ) → drop at s ≡ numeral i ++ z → 1 ≤ i → i ≤ 16 → NoDigit z
-      → atom_end (suc n) s d at ≡ At (at + length (numeral i))
+      → atom_end (suc n) s d at ≡ Some (at + length (numeral i))
   unfolding numeral
   number_ends i z e l u stop = go (ltb i 10) refl e
     where
       go : (t : Bool) → ltb i 10 ≡ t → drop at s ≡ cond t ((48 + i) ∷ []) (49 ∷ (38 + i) ∷ []) ++ z
-          → atom_end (suc n) s d at ≡ At (at + length (cond (ltb i 10) ((48 + i) ∷ []) (49 ∷ (38 + i) ∷ [])))
+          → atom_end (suc n) s d at ≡ Some (at + length (cond (ltb i 10) ((48 + i) ∷ []) (49 ∷ (38 + i) ∷ [])))
       go true t e = rw t (one_digit_ends i z e l (omega (arith, ltb-true i 10 t)) stop)
       go false t e = rw t (two_digits_end i z e (ltb-false i 10 t) u)
 
@@ -129,7 +128,7 @@ module _ (s : List ℕ) where
     unfolding rule_text
 
     pub rule_ends : (r : Rule) (n d at : ℕ) (z : List ℕ) → drop at s ≡ rule_text r ++ z → WellRule r d → AfterRule z
-        → 3 * length (rule_text r) + 2 < n → rule_end n s d at ≡ At (at + length (rule_text r))
+        → 3 * length (rule_text r) + 2 < n → rule_end n s d at ≡ Some (at + length (rule_text r))
     rule_ends (term t) zero d at z e w a l = absurd (not-suc-le-zero l)
     rule_ends (term t) (suc n) d at z e w a l =
         last_ends term_end rule_end or_sign rule_step n s d at (term_text t)
@@ -143,7 +142,7 @@ module _ (s : List ℕ) where
         (rule_text r) z e (λ f. rule_ends r n d (at + length (term_text t) + 1) z f w.1 a (omega (arith, m)))
 
     pub term_ends : (t : Term) (n d at : ℕ) (z : List ℕ) → drop at s ≡ term_text t ++ z → WellTerm t d → AfterTerm z
-        → 3 * length (term_text t) + 1 < n → term_end n s d at ≡ At (at + length (term_text t))
+        → 3 * length (term_text t) + 1 < n → term_end n s d at ≡ Some (at + length (term_text t))
     term_ends (atom b) zero d at z e w a l = absurd (not-suc-le-zero l)
     term_ends (atom b) (suc n) d at z e w a l =
         last_ends atom_end term_end and_sign term_step n s d at (atom_text b)
@@ -157,7 +156,7 @@ module _ (s : List ℕ) where
         (term_text t) z e (λ f. term_ends t n d (at + length (atom_text b) + 1) z f w.1 a (omega (arith, m)))
 
     pub atom_ends : (b : Atom) (n d at : ℕ) (z : List ℕ) → drop at s ≡ atom_text b ++ z → WellAtom b d → NoDigit z
-        → 3 * length (atom_text b) < n → atom_end n s d at ≡ At (at + length (atom_text b))
+        → 3 * length (atom_text b) < n → atom_end n s d at ≡ Some (at + length (atom_text b))
     atom_ends (number i) zero d at z e w a l = absurd (not-suc-le-zero l)
     atom_ends (number i) (suc n) d at z e w a l = number_ends n s d at i z e w.0 w.1 a
     atom_ends (group r) zero d at z e w a l = absurd (not-suc-le-zero l)

@@ -12,8 +12,7 @@ use Rattle.scheme.proofs.Tests.{and-true}
 use Rattle.rules.specs.Tree.{term, ◌or◌, atom, ◌and◌, number, group}
 use Rattle.rules.specs.Text.{opening, closing, numeral, rule_text, term_text, atom_text, WellRule, WellTerm, WellAtom}
 use Rattle.reader.specs.declared.Kind.{Kind}
-use Rattle.reader.specs.declared.Read.{Read}
-use Rattle.reader.specs.declared.Read.TheVariants.{At, Bad}
+use Rattle.std.specs.Prelude.{Option, Some, None}
 use Rattle.reader.specs.Grammar.{
   kind_at,
   tag,
@@ -46,9 +45,9 @@ pub record Written {A : Type 0} (text : A → List ℕ) (Well : A → ℕ → Ty
   pub well : Well tree d
   pub here : drop at s ≡ text tree ++ drop end s
 
-abbrev pub Found : {A : Type 0} → (A → List ℕ) → (A → ℕ → Type 0) → List ℕ → ℕ → ℕ → Read → Type 0
-Found text Well s d at (At q) = Written text Well s d at q
-Found text Well s d at Bad = Unit {0}
+abbrev pub Found : {A : Type 0} → (A → List ℕ) → (A → ℕ → Type 0) → List ℕ → ℕ → ℕ → Option ℕ → Type 0
+Found text Well s d at (Some q) = Written text Well s d at q
+Found text Well s d at None = Unit {0}
 
 -- Parts joined by a sign, for a rule and for a term alike.
 module _
@@ -68,14 +67,14 @@ module _
     (well-more : (a : Part) (l : Joined) (d : ℕ) → WellPart a d → Well l d → Well (more a l) d)
     (s : List ℕ)
     (d at : ℕ) where
-  joined_found : (first : Read) (rest : ℕ → Read) → Found part WellPart s d at first → ((q : ℕ) → Found text Well s d (q + 1) (rest q))
-      → Found text Well s d at (after first (λ q. cond (eqb (tag (kind_at s q)) (tag k)) (rest q) (At q)))
-  joined_found Bad rest f g = tt
-  joined_found (At q) rest f g = go (eqb (tag (kind_at s q)) (tag k)) refl
+  joined_found : (first : Option ℕ) (rest : ℕ → Option ℕ) → Found part WellPart s d at first → ((q : ℕ) → Found text Well s d (q + 1) (rest q))
+      → Found text Well s d at (after first (λ q. cond (eqb (tag (kind_at s q)) (tag k)) (rest q) (Some q)))
+  joined_found None rest f g = tt
+  joined_found (Some q) rest f g = go (eqb (tag (kind_at s q)) (tag k)) refl
     where
-      longer : drop q s ≡ byte ∷ drop (q + 1) s → (r : Read) → Found text Well s d (q + 1) r → Found text Well s d at r
-      longer e Bad h = tt
-      longer e (At m) h = record {
+      longer : drop q s ≡ byte ∷ drop (q + 1) s → (r : Option ℕ) → Found text Well s d (q + 1) r → Found text Well s d at r
+      longer e None h = tt
+      longer e (Some m) h = record {
         tree = more f.tree h.tree;
         well = well-more f.tree h.tree d f.well h.well;
         here =
@@ -84,7 +83,7 @@ module _
             ∙ ap (λ (z : List ℕ). z ++ drop m s) (sym (text-more f.tree h.tree));
       }
 
-      go : (t : Bool) → eqb (tag (kind_at s q)) (tag k) ≡ t → Found text Well s d at (cond t (rest q) (At q))
+      go : (t : Bool) → eqb (tag (kind_at s q)) (tag k) ≡ t → Found text Well s d at (cond t (rest q) (Some q))
       go true e = longer (sign_here sign s q e) (rest q) (g q)
       go false e = record {
         tree = one f.tree;
@@ -120,23 +119,23 @@ module _ (s : List ℕ) (d at : ℕ) where
   number_found v h l = go (is_digit (kind_at s (at + 1))) refl
     where
       fits : (t : Bool) → (eqb v 1 && leb (digit (kind_at s (at + 1))) 6) ≡ t → DigitAt s (at + 1) (digit (kind_at s (at + 1)))
-          → Found atom_text WellAtom s d at (cond t (At (at + 2)) Bad)
+          → Found atom_text WellAtom s d at (cond t (Some (at + 2)) None)
       fits true e k = let b = and-true _ _ e in two_digits v _ h (eqb-true v 1 b.0) k (leb-true _ 6 b.1)
       fits false e k = tt
 
       go : (t : Bool) → is_digit (kind_at s (at + 1)) ≡ t
-          → Found atom_text WellAtom s d at (cond t (cond (eqb v 1 && leb (digit (kind_at s (at + 1))) 6) (At (at + 2)) Bad) (At (at + 1)))
+          → Found atom_text WellAtom s d at (cond t (cond (eqb v 1 && leb (digit (kind_at s (at + 1))) 6) (Some (at + 2)) None) (Some (at + 1)))
       go true e = fits (eqb v 1 && leb (digit (kind_at s (at + 1))) 6) refl (digit_here s (at + 1) e)
       go false e = one_digit v h l
 
   -- A group: the rule in it is read from the next place on.
-  group_found : drop at s ≡ opening ∷ drop (at + 1) s → (d ≡ 0 → ⊥) → (r : Read) → Found rule_text WellRule s (d - 1) (at + 1) r
-      → Found atom_text WellAtom s d at (after r (λ q. cond (is_close (kind_at s q)) (At (q + 1)) Bad))
+  group_found : drop at s ≡ opening ∷ drop (at + 1) s → (d ≡ 0 → ⊥) → (r : Option ℕ) → Found rule_text WellRule s (d - 1) (at + 1) r
+      → Found atom_text WellAtom s d at (after r (λ q. cond (is_close (kind_at s q)) (Some (q + 1)) None))
   unfolding atom_text
-  group_found o n Bad f = tt
-  group_found o n (At q) f = go (is_close (kind_at s q)) refl
+  group_found o n None f = tt
+  group_found o n (Some q) f = go (is_close (kind_at s q)) refl
     where
-      go : (t : Bool) → is_close (kind_at s q) ≡ t → Found atom_text WellAtom s d at (cond t (At (q + 1)) Bad)
+      go : (t : Bool) → is_close (kind_at s q) ≡ t → Found atom_text WellAtom s d at (cond t (Some (q + 1)) None)
       go true e = record {
         tree = group f.tree;
         well = (omega (arith, n), f.well);
@@ -146,15 +145,15 @@ module _ (s : List ℕ) (d at : ℕ) where
       }
       go false e = tt
 
-  either_found : (r : Read) → Found rule_text WellRule s (d - 1) (at + 1) r
+  either_found : (r : Option ℕ) → Found rule_text WellRule s (d - 1) (at + 1) r
       → Found atom_text WellAtom s d at
-      (on_atom (kind_at s at) (λ v. number_end_lem s v at) (cond (eqb d 0) Bad (after r (λ q. cond (is_close (kind_at s q)) (At (q + 1)) Bad))))
+      (on_atom (kind_at s at) (λ v. number_end_lem s v at) (cond (eqb d 0) None (after r (λ q. cond (is_close (kind_at s q)) (Some (q + 1)) None))))
   either_found r f = go (eqb (tag (kind_at s at)) 0) (is_open (kind_at s at)) (eqb d 0) refl refl refl
     where
       go : (first opens deep : Bool) → eqb (tag (kind_at s at)) 0 ≡ first → is_open (kind_at s at) ≡ opens → eqb d 0 ≡ deep
           → Found atom_text WellAtom s d at
           (cond first (number_end_lem s (digit (kind_at s at)) at)
-          (cond opens (cond deep Bad (after r (λ q. cond (is_close (kind_at s q)) (At (q + 1)) Bad))) Bad))
+          (cond opens (cond deep None (after r (λ q. cond (is_close (kind_at s q)) (Some (q + 1)) None))) None))
       go true opens deep e o z = let h = first_here s at e in number_found (digit (kind_at s at)) h.0 h.1
       go false true true e o z = tt
       go false true false e o z = group_found (sign_here open_sign s at o) (eqb-false d 0 z) r f

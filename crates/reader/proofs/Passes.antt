@@ -8,6 +8,11 @@ use native.Mathlib.Omega.{arith}
 use lib.Dec.{eqb, leb, ltb}
 use lib.ListN.{length, drop, get_or, drop_of_length-le}
 use borrow.Author.Tests.{le-leb, lt-leb, ltb-true, ltb-false, leb-true}
+use Rattle.std.specs.Prelude.{◌==◌, count_by}
+use Rattle.std.proofs.Common.{zero-add}
+use Rattle.std.proofs.lemmas.List.Recursion.{is_count_by}
+use Rattle.std.proofs.lemmas.List.Sums.{count_by-le-length}
+use Rattle.std.proofs.lemmas.List.Folds.{list_all-append}
 use Rattle.residue.proofs.Moduli.{drop_next}
 use Rattle.scheme.specs.Tests.{each}
 use Rattle.rules.specs.Tree.{Rule, Term, Atom, term, ◌or◌, atom, ◌and◌, number, group, choice, rule_names, term_names, atom_names}
@@ -16,25 +21,17 @@ use Rattle.rules.specs.Bytes.{occurs}
 use Rattle.reader.specs.Scan.{further, up_to}
 use Rattle.reader.proofs.Begins.{NoDigit}
 
--- Counting a byte: what is counted and what is left give the answer.
-module _ (b : ℕ) (s : List ℕ) (i n : ℕ) where
-  pub occurs_go : (x : ℕ) → n + occurs b (drop i s) ≡ occurs b s → i < length s → x ≡ cond (eqb (get_or s i 0) b) 1 0
-      → n + x + occurs b (drop (i + 1) s) ≡ occurs b s
-  unfolding occurs
-  occurs_go x inv l e = omega (arith, ap (occurs b) (drop_next s i l), e, inv)
+-- Counting a byte is the library's count.
+one_more : (n : ℕ) (t : Bool) → cond t 1 0 + n ≡ cond t (1 + n) n
+one_more n true = refl
+one_more n false = zero-add n
 
-  pub occurs_end : n + occurs b (drop i s) ≡ occurs b s → length s ≤ i → n ≡ occurs b s
-  unfolding occurs
-  occurs_end inv l = omega (arith, ap (occurs b) (drop_of_length-le s l), inv)
-
-one_or_none : (t : Bool) → cond t 1 0 ≤ 1
-one_or_none true = omega arith
-one_or_none false = omega arith
+pub occurs_counts : (b : ℕ) (s : List ℕ) → count_by (λ x. x == b) s ≡ occurs b s
+unfolding occurs
+occurs_counts b s = sym (is_count_by (occurs b) (λ x. x == b) refl (λ x s. one_more (occurs b s) (eqb x b)) s)
 
 pub occurs_le : (b : ℕ) (s : List ℕ) → occurs b s ≤ length s
-unfolding occurs
-occurs_le b [] = omega arith
-occurs_le b (x ∷ s) = omega (arith, one_or_none (eqb x b), occurs_le b s)
+occurs_le b s = rw (← occurs_counts b s) (count_by-le-length (λ x. x == b) s)
 
 -- The numbers: what is left, after the number v that is written so far, gives the answer.
 module _ (n : ℕ) (s : List ℕ) (i v w : ℕ) (inv : up_to n v (drop i s) ≡ up_to n 0 s) (l : i < length s) (e : w ≡ further v (get_or s i 0)) where
@@ -53,13 +50,7 @@ unfolding up_to
 up_to_end n s i v inv l = sym (ap (up_to n v) (drop_of_length-le s l)) ∙ inv
 
 -- One byte further.
-pub further_low : (v b : ℕ) → b < 48 → 0 ≡ further v b
-further_low v b l = simp (lt-leb 48 b l)
-
-pub further_high : (v b : ℕ) → 48 ≤ b → 57 < b → 0 ≡ further v b
-further_high v b l h = simp (le-leb 48 b l, lt-leb b 57 h)
-
-pub further_digit : (v b : ℕ) → 48 ≤ b → b ≤ 57 → v * 10 + (b - 48) ≡ further v b
+further_digit : (v b : ℕ) → 48 ≤ b → b ≤ 57 → v * 10 + (b - 48) ≡ further v b
 further_digit v b l u = simp (le-leb 48 b l, le-leb b 57 u)
 
 -- A byte that is no digit ends the number.
@@ -88,18 +79,13 @@ module _ (n : ℕ) where
   abbrev Names : List ℕ → List ℕ → Type 0
   Names x xs = (s : List ℕ) → NoDigit s → up_to n 0 (x ++ s) ≡ (at_most xs && up_to n 0 s)
 
-  each_append : (xs ys : List ℕ) → at_most (xs ++ ys) ≡ (at_most xs && at_most ys)
-  unfolding each
-  each_append [] ys = refl
-  each_append (x ∷ xs) ys = ap (λ (t : Bool). leb x n && t) (each_append xs ys) ∙ sym (and_assoc (leb x n) (at_most xs) (at_most ys))
-
   names_joined : (byte : ℕ) → (48 ≤ byte → byte ≤ 57 → ⊥) → (x y xs ys : List ℕ) → Names x xs → Names y ys
       → Names (x ++ (byte ∷ y)) (xs ++ ys)
   names_joined byte sign x y xs ys h k s stop =
       ap (up_to n 0) (append_assoc x (byte ∷ y) s)
       ∙ h (byte ∷ (y ++ s)) sign
       ∙ ap (λ (t : Bool). at_most xs && t) (up_to_other n 0 byte (y ++ s) sign ∙ k s stop)
-      ∙ sym (ap (λ (t : Bool). t && up_to n 0 s) (each_append xs ys) ∙ and_assoc (at_most xs) (at_most ys) (up_to n 0 s))
+      ∙ sym (ap (λ (t : Bool). t && up_to n 0 s) (list_all-append _ xs ys) ∙ and_assoc (at_most xs) (at_most ys) (up_to n 0 s))
 
   names_group : (x xs : List ℕ) → Names x xs → Names (opening ∷ (x ++ (closing ∷ []))) xs
   names_group x xs h s stop =
@@ -117,7 +103,7 @@ module _ (n : ℕ) where
       go false e = rw (e, and-false)
 
   names_number : (i : ℕ) → 1 ≤ i → i ≤ 16 → Names (numeral i) (i ∷ [])
-  unfolding numeral up_to each
+  unfolding numeral up_to
   names_number i l u s stop = go (ltb i 10) refl ∙ ap (λ (t : Bool). t && up_to n 0 s) (sym (and-true (leb i n)))
     where
       one : i ≤ 9 → up_to n 0 ((48 + i) ∷ s) ≡ (leb i n && up_to n 0 s)

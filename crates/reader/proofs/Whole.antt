@@ -10,8 +10,8 @@ use lib.ListN.{length, drop_of_length-le}
 use borrow.Author.Tests.{eqb-true, eqb-false}
 use Rattle.rules.specs.Tree.{Rule}
 use Rattle.rules.specs.Text.{rule_text, WellRule, IsRule, NoRule}
-use Rattle.reader.specs.declared.Read.{Read}
-use Rattle.reader.specs.declared.Read.TheVariants.{At, Bad}
+use Rattle.std.specs.Prelude.{Option, Some, None}
+use Rattle.std.specs.Option.{option_eq}
 use Rattle.reader.specs.Grammar.{rule_end}
 use Rattle.reader.specs.Recognised.{Recognised}
 use Rattle.reader.proofs.Found.{Written, Found, rule_found}
@@ -20,32 +20,26 @@ use Rattle.reader.proofs.Ends.{nothing_follows, rule_ends}
 none : (t : List ℕ) → NoRule t → Recognised t false
 none t n = record { yes = λ e. absurd (false≢true e); no = λ e. n }
 
-pub too_short : (t : List ℕ) → length t < 1 → Recognised t false
-too_short t l = none t (λ r i. omega (arith, i.long))
-
-pub too_long : (t : List ℕ) → 256 < length t → Recognised t false
-too_long t l = none t (λ r i. omega (arith, i.short))
-
 -- Where a reading ends; 0 where there is none.
-abbrev place : Read → ℕ
-place (At q) = q
-place Bad = 0
+abbrev place : Option ℕ → ℕ
+place (Some q) = q
+place None = 0
 
 -- A text of the right length; end is what the reader answers of it.
-module _ (t : List ℕ) (long : 1 ≤ length t) (short : length t ≤ 256) (end : Read)
+module _ (t : List ℕ) (long : 1 ≤ length t) (short : length t ≤ 256) (end : Option ℕ)
     (is : (n : ℕ) → 3 * (length t - 0) + 2 < n → end ≡ rule_end n t 8 0) where
   -- Of a rule the reader answers its end.
-  ends : (r : Rule) → IsRule t r → end ≡ At (length t)
+  ends : (r : Rule) → IsRule t r → end ≡ Some (length t)
   ends r i =
       is (3 * length t + 3) (omega arith)
       ∙ rule_ends t r (3 * length t + 3) 8 0 [] (i.text ∙ sym (append-nil (rule_text r))) i.well nothing_follows
       (omega (arith, ap length i.text))
-      ∙ ap (λ (m : ℕ). At m) (omega (arith, ap length i.text))
+      ∙ ap (λ (m : ℕ). Some m) (omega (arith, ap length i.text))
 
-  pub unread : end ≡ Bad → Recognised t false
+  unread : end ≡ None → Recognised t false
   unread e = none t (λ r i. let q = ap place (sym e ∙ ends r i) in omega arith)
 
-  pub read_to : (q : ℕ) → end ≡ At q → Recognised t (eqb q (length t))
+  read_to : (q : ℕ) → end ≡ Some q → Recognised t (eqb q (length t))
   read_to q e = record {
     yes = λ f. whole (eqb-true q (length t) f);
     no = λ f r i. eqb-false q (length t) f (ap place (sym e ∙ ends r i));
@@ -67,6 +61,12 @@ module _ (t : List ℕ) (long : 1 ≤ length t) (short : length t ≤ 256) (end 
           short = short;
         },
       )
+
+-- It is a rule just where its end is the text's.
+pub recognised : (t : List ℕ) → 1 ≤ length t → length t ≤ 256 → (end : Option ℕ)
+    → ((n : ℕ) → 3 * (length t - 0) + 2 < n → end ≡ rule_end n t 8 0) → Recognised t (option_eq eqb end (Some (length t)))
+recognised t l u None is = unread t l u None is refl
+recognised t l u (Some q) is = read_to t l u (Some q) is q refl
 
 -- A text has one answer.
 pub recognised_one : (t : List ℕ) (a b : Bool) → Recognised t a → Recognised t b → a ≡ b

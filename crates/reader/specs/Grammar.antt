@@ -1,11 +1,9 @@
 -- How the readers of src/lib.rt go through a text, place by place. No public contract cites this file.
 -- Assumes nothing.
-use Rattle.std.specs.Prelude.{Bool, cond, ◌&&◌, List, ℕ, zero, suc, ◌+◌, ◌-◌, ◌<◌, eqb, leb, ltb, length, get_or}
+use Rattle.std.specs.Prelude.{Bool, cond, ◌&&◌, List, ℕ, zero, suc, ◌+◌, ◌-◌, ◌<◌, eqb, leb, ltb, length, get_or, Option, Some, None}
 use Rattle.rules.specs.Text.{bar, ampersand, opening, closing}
 use Rattle.reader.specs.declared.Kind.{Kind}
 use Rattle.reader.specs.declared.Kind.TheVariants.{Digit, Zero, Or, And, Open, Close, Other}
-use Rattle.reader.specs.declared.Read.{Read}
-use Rattle.reader.specs.declared.Read.TheVariants.{At, Bad}
 
 -- "At each place a byte of the text is a digit, a sign or neither."
 unfoldable pub class_of : ℕ → Kind
@@ -52,37 +50,37 @@ digit Close = 0
 digit Other = 0
 
 -- The second digit, if there is one, makes 10 to 16.
-abbrev pub number_by : Kind → ℕ → ℕ → Read
-number_by k d at = cond (is_digit k) (cond (eqb d 1 && leb (digit k) 6) (At (at + 2)) Bad) (At (at + 1))
+abbrev pub number_by : Kind → ℕ → ℕ → Option ℕ
+number_by k d at = cond (is_digit k) (cond (eqb d 1 && leb (digit k) 6) (Some (at + 2)) None) (Some (at + 1))
 
-unfoldable pub number_end_lem : List ℕ → ℕ → ℕ → Read
+unfoldable pub number_end_lem : List ℕ → ℕ → ℕ → Option ℕ
 number_end_lem s d at = number_by (kind_at s (at + 1)) d at
 
-abbrev pub after : Read → (ℕ → Read) → Read
-after (At q) f = f q
-after Bad f = Bad
+abbrev pub after : Option ℕ → (ℕ → Option ℕ) → Option ℕ
+after (Some q) f = f q
+after None f = None
 
 -- A digit from 1 to 9 begins a number, an opening parenthesis a group.
-abbrev pub on_atom : Kind → (ℕ → Read) → Read → Read
-on_atom k number group = cond (eqb (tag k) 0) (number (digit k)) (cond (is_open k) group Bad)
+abbrev pub on_atom : Kind → (ℕ → Option ℕ) → Option ℕ → Option ℕ
+on_atom k number group = cond (eqb (tag k) 0) (number (digit k)) (cond (is_open k) group None)
 
 -- The first number is fuel, d the parentheses that may still be opened.
 unfoldable mutual
-  pub rule_end : ℕ → List ℕ → ℕ → ℕ → Read
-  rule_end zero s d at = Bad
-  rule_end (suc n) s d at = after (term_end n s d at) (λ q. cond (is_or (kind_at s q)) (rule_end n s d (q + 1)) (At q))
+  pub rule_end : ℕ → List ℕ → ℕ → ℕ → Option ℕ
+  rule_end zero s d at = None
+  rule_end (suc n) s d at = after (term_end n s d at) (λ q. cond (is_or (kind_at s q)) (rule_end n s d (q + 1)) (Some q))
 
-  pub term_end : ℕ → List ℕ → ℕ → ℕ → Read
-  term_end zero s d at = Bad
-  term_end (suc n) s d at = after (atom_end n s d at) (λ q. cond (is_and (kind_at s q)) (term_end n s d (q + 1)) (At q))
+  pub term_end : ℕ → List ℕ → ℕ → ℕ → Option ℕ
+  term_end zero s d at = None
+  term_end (suc n) s d at = after (atom_end n s d at) (λ q. cond (is_and (kind_at s q)) (term_end n s d (q + 1)) (Some q))
 
-  pub atom_end : ℕ → List ℕ → ℕ → ℕ → Read
-  atom_end zero s d at = Bad
+  pub atom_end : ℕ → List ℕ → ℕ → ℕ → Option ℕ
+  atom_end zero s d at = None
   atom_end (suc n) s d at =
       on_atom (kind_at s at) (λ v. number_end_lem s v at)
-      (cond (eqb d 0) Bad (after (rule_end n s (d - 1) (at + 1)) (λ q. cond (is_close (kind_at s q)) (At (q + 1)) Bad)))
+      (cond (eqb d 0) None (after (rule_end n s (d - 1) (at + 1)) (λ q. cond (is_close (kind_at s q)) (Some (q + 1)) None)))
 
 -- A part that begins at a place ends past it.
-abbrev pub Within : ℕ → Read → Type 0
-Within at (At q) = at < q
-Within at Bad = Unit {0}
+abbrev pub Within : ℕ → Option ℕ → Type 0
+Within at (Some q) = at < q
+Within at None = Unit {0}

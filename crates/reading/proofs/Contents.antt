@@ -12,7 +12,7 @@ use Rattle.linear.specs.Flat.{place}
 use Rattle.format.specs.Format.{used}
 use Rattle.format.specs.Reading.{all_below, byte_at, zeros_right_lem}
 use Rattle.reading.specs.Parts.{content_of}
-use Rattle.reading.proofs.Trying.{all_same}
+use Rattle.reading.proofs.Tests.{all_same}
 
 -- The part of the file from place a to place z.
 pub content_part : (file : List ℕ) (b a z : ℕ) → a ≡ 512 * b + 8 → z ≡ a + 500 → take (z - a) (drop a file) ≡ content_of file b

@@ -1,4 +1,4 @@
-pub mod Trying
+pub mod Tests
 pub mod Contents
 pub mod Numbers
 pub mod Uses

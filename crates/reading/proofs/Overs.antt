@@ -1,19 +1,15 @@
--- A list whose first places a loop has filled.
+-- A list whose first n places a loop has filled.
 -- Assumes nothing.
-use mathlib.Core.Path.{◌≡◌, sym, ◌∙◌}
-use mathlib.Core.List.{List}
+use mathlib.Core.Path.{◌≡◌, sym, ap, ap₂}
+use mathlib.Core.List.{List, ◌++◌}
 use Prim.Native.Nat.{ℕ, ◌≤◌}
-use native.Mathlib.Omega.{arith}
-use lib.ListN.{length}
-use Rattle.lists.proofs.Fill.{Filled, filled}
+use lib.ListN.{length, drop}
+use Rattle.lists.proofs.Fill.{Filled}
 use Rattle.linear.specs.Flat.{list_of}
-use Rattle.linear.proofs.Flat.{list_length, list_at}
+use Rattle.linear.proofs.Flat.{list_length, filled_list}
 use Rattle.scheme.specs.Outcome.{over}
-use Rattle.scheme.proofs.Over.{over_is}
 
-pub filled_over : (n : ℕ) (f : ℕ → ℕ) (x₀ x : List ℕ) (i : ℕ) → Filled 0 n f x₀ x i → n ≤ i → n ≤ length x₀ → x ≡ over (list_of n f) x₀
-filled_over n f x₀ x i h l fits =
-    let q = list_length n f in
-    over_is (list_of n f) x₀ x h.size (omega arith)
-    (λ k lk. filled n f x₀ x i h l k (omega arith) ∙ sym (list_at n f k (omega arith)))
-    (λ k lk. h.after k (omega (arith, h.upto)))
+pub filled_over : (n : ℕ) (f : ℕ → ℕ) (x₀ x old : List ℕ) (i : ℕ) → Filled 0 n f x₀ x i → n ≤ i → length x₀ ≡ n
+    → x ++ drop n old ≡ over (list_of n f) old
+filled_over n f x₀ x old i h l e =
+    ap₂ ◌++◌ (filled_list n f x₀ x i h l e) (ap (λ (k : ℕ). drop k old) (sym (list_length n f)))

@@ -6,14 +6,11 @@ use Prim.Native.Nat.{ℕ, ◌+◌, ◌*◌, ◌/◌, ◌%◌, ◌<◌, ◌≤◌
 use native.Mathlib.Nat.{mod-lt}
 use native.Mathlib.Omega.{arith}
 use Rattle.linear.specs.Flat.{place}
-use Rattle.format.specs.Format.{number_of, blocks}
+use Rattle.format.specs.Format.{number_of}
 use Rattle.format.specs.Reading.{record_at}
 use Rattle.reading.specs.Parts.{content_of, entry_at}
 use Rattle.reading.proofs.Contents.{content_at}
 use Rattle.reading.proofs.Numbers.{number_same}
-
-pub row_inside : (k d m : ℕ) → k < d → 512 * blocks 1 d ≤ m → 512 * (1 + k / 20) + 512 ≤ m
-row_inside k d m l h = omega arith
 
 module _ (file : List ℕ) (k : ℕ) where
   -- Byte m of the record of row k, in the content of the row's block.

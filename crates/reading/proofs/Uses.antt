@@ -6,7 +6,7 @@ use Prim.Native.Nat.{ℕ, zero, suc, ◌+◌, ◌*◌, ◌-◌, ◌/◌, ◌%◌
 use native.Mathlib.Omega.{arith}
 use lib.Dec.{ltb}
 use borrow.Author.Tests.{lt-ltb, le-ltb}
-use Rattle.format.specs.Format.{kind_of, used}
+use Rattle.format.specs.Format.{used}
 
 module _ (d e : ℕ) where
   pub use_heading : (b j : ℕ) → b ≡ 0 → ltb j 5 ≡ used 1 d e b j
@@ -28,12 +28,3 @@ module _ (d e : ℕ) where
       let first : j / 25 < 20 = omega arith in
       let row : b * 20 + j / 25 < d = omega arith in
       simp (lt-ltb (j / 25) 20 first, lt-ltb (b * 20 + j / 25) d row)
-
--- The kind of a block.
-pub kind_heading : (b : ℕ) → b ≡ 0 → 1 ≡ kind_of b
-kind_heading zero q = refl
-kind_heading (suc b) q = absurd (omega arith)
-
-pub kind_rows : (b : ℕ) → (b ≡ 0 → ⊥) → 2 ≡ kind_of b
-kind_rows zero n = absurd (n refl)
-kind_rows (suc b) n = refl

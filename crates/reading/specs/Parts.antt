@@ -1,8 +1,10 @@
 -- What the inner steps of reading answer: parts of the definitions of crate format, for version 1.
 -- Assumes nothing.
-use Rattle.std.specs.Prelude.{Bool, ◌||◌, ◌&&◌, List, ℕ, ◌+◌, ◌*◌, ◌/◌, ◌%◌, eqb, length, take, drop}
+use Rattle.std.specs.Prelude.{Bool, ◌||◌, ◌&&◌, List, ℕ, ◌+◌, ◌*◌, ◌/◌, ◌%◌, eqb, length, take, drop, Result}
 use Rattle.linear.specs.Combination.{total}
 use Rattle.scheme.specs.declared.Shape.{Shape}
+use Rattle.scheme.specs.declared.Refusal.{Refusal}
+use Rattle.scheme.specs.declared.Refusal.TheVariants as R
 use Rattle.scheme.specs.Tests.{unless, or_else}
 use Rattle.scheme.specs.Refusal.{numbers_refusal_lem, content_refusal_lem}
 use Rattle.format.specs.Format.{number_of}
@@ -25,16 +27,16 @@ abbrev pub length_right_lem : ℕ → Bool
 length_right_lem size = eqb size 1024 || eqb size 1536
 
 -- 5, 17, 18 and 19.
-unfoldable pub blocks_refusal_lem : List ℕ → ℕ → ℕ → ℕ
+unfoldable pub blocks_refusal_lem : List ℕ → ℕ → ℕ → Result Unit Refusal
 blocks_refusal_lem file labelPlaces entryPlaces =
-    or_else (unless (eqb labelPlaces 32 && eqb entryPlaces 384) 5)
-    (or_else (unless (length_right_lem (length file)) 17)
-    (or_else (unless (all_below (block_count 1 file) (check_right_lem 1 file)) 18)
-    (unless (all_below (block_count 1 file) (marks_right_lem 1 file)) 19)))
+    or_else (unless (eqb labelPlaces 32 && eqb entryPlaces 384) R.Length)
+    (or_else (unless (length_right_lem (length file)) R.FileLength)
+    (or_else (unless (all_below (block_count 1 file) (check_right_lem 1 file)) R.BlockCheck)
+    (unless (all_below (block_count 1 file) (marks_right_lem 1 file)) R.BlockMark)))
 
 -- 1 to 4, 20, 6 and 7, for the numbers of the heading.
-unfoldable pub scheme_refusal_lem : List ℕ → Shape → ℕ
+unfoldable pub scheme_refusal_lem : List ℕ → Shape → Result Unit Refusal
 scheme_refusal_lem file s =
     or_else (numbers_refusal_lem s)
-    (or_else (unless (rest_right_lem 1 file s) 20)
+    (or_else (unless (rest_right_lem 1 file s) R.FileRest)
     (content_refusal_lem s.p s.n (labels_at 1 file s.d) (entries_at 1 file s.d s.e)))

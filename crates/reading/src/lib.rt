@@ -6,35 +6,22 @@ ghost use Rattle.std.specs.Prelude.{◌≡◌, ◌||◌, ◌<◌, ◌≤◌, ◌
 ghost use Rattle.linear.specs.Flat.{place};
 ghost use Rattle.scheme.specs.Tests.{within, each, each_below};
 ghost use Rattle.scheme.specs.Outcome.{over};
-ghost use Rattle.format.specs.Format.{number_of, kind_of, used, blocks};
+ghost use Rattle.format.specs.Format.{number_of, used, blocks};
 ghost use Rattle.format.specs.Reading.{all_below, check_right_lem, marks_right_lem, shape_at, record_at, labels_at, entries_at};
 ghost use Rattle.format.specs.Reading.{zeros_right_lem, rest_right_lem, read_refusal1};
 ghost use Rattle.reading.specs.Parts.{content_of, check_sum_lem, entry_at, length_right_lem, blocks_refusal_lem, scheme_refusal_lem};
 ghost use Rattle.reading.specs.Says.{ReadSays};
 
-use scheme::{Made, Shape};
+use scheme::{Refusal, Shape};
 
 // A block's content: that part of the caller's bytes, not a copy.
 fn content(file: &[u8], b: usize) -> &[u8]
     requires { 512 * b + 512 ≤ length file.now }
-    ensures { result.now ≡ content_of file.now b }
+    ensures { (result.now ≡ content_of file.now b) × (length result.now ≡ 500) }
 {
     let start = 512 * b + 8;
     let end = start + 500;
     &file[start..end]
-}
-
-// A byte as a number.
-fn wide(x: u8) -> u32
-    ensures { (result ≡ x) × (result < 256) }
-{
-    x as u32
-}
-
-fn number(low: u8, high: u8) -> u32
-    ensures { (result ≡ low + 256 * high) × (result < 65536) }
-{
-    (low as u32) + 256 * (high as u32)
 }
 
 // Numbers little-endian.
@@ -42,24 +29,14 @@ fn two_bytes(bytes: &[u8], at: usize) -> u32
     requires { at + 2 ≤ length bytes.now }
     ensures { (result ≡ number_of 2 (λ k. place bytes.now (at + k))) × (result < 65536) }
 {
-    number(bytes[at], bytes[at + 1])
+    u32::from(u16::from_le_bytes([bytes[at], bytes[at + 1]]))
 }
 
 fn four_bytes(bytes: &[u8], at: usize) -> u32
     requires { at + 4 ≤ length bytes.now }
     ensures { result ≡ number_of 4 (λ k. place bytes.now (at + k)) }
 {
-    let low = two_bytes(bytes, at);
-    let high = two_bytes(bytes, at + 2);
-    low + 65536 * high
-}
-
-// What the byte at place o of a block adds to the block's check.
-fn weighted(x: u8, o: usize) -> u32
-    requires { o < 508 }
-    ensures { (result ≡ x * (o + 1)) × (result ≤ 129540) }
-{
-    (x as u32) * ((o + 1) as u32)
+    u32::from_le_bytes([bytes[at], bytes[at + 1], bytes[at + 2], bytes[at + 3]])
 }
 
 fn check_sum(file: &[u8], b: usize) -> u32
@@ -68,10 +45,8 @@ fn check_sum(file: &[u8], b: usize) -> u32
 {
     let at = 512 * b;
     let mut sum = 0;
-    let mut o = 0;
-    while o < 508 {
-        sum += weighted(file[at + o], o);
-        o += 1;
+    for (o, x) in file[at..at + 508].iter().enumerate() {
+        sum += format::weighted(*x, o);
     }
     sum
 }
@@ -88,14 +63,7 @@ fn checks_right(file: &[u8], count: usize) -> bool
     requires { 512 * count ≤ length file.now }
     ensures { result ≡ all_below count (check_right_lem 1 file.now) }
 {
-    let mut b = 0;
-    while b < count {
-        if !check_right(file, b) {
-            return false;
-        }
-        b += 1;
-    }
-    true
+    (0..count).all(|b| check_right(file, b))
 }
 
 // Whether the word stands in the bytes from the place on.
@@ -104,23 +72,7 @@ fn same_at(bytes: &[u8], at: usize, word: &[u8]) -> bool
     ensures { result ≡ all_below (length word.now)
         (λ o. eqb (place bytes.now (at + o)) (place word.now o)) }
 {
-    let mut o = 0;
-    while o < word.len() {
-        if bytes[at + o] != word[o] {
-            return false;
-        }
-        o += 1;
-    }
-    true
-}
-
-fn kind(b: usize) -> u8
-    ensures { result ≡ kind_of b }
-{
-    if b == 0 {
-        return 1;
-    }
-    2
+    bytes[at..].starts_with(word)
 }
 
 // The block's mark, kind, version and number.
@@ -132,7 +84,7 @@ fn mark_right(file: &[u8], b: usize) -> bool
     if !same_at(file, at, b"QRUL") {
         return false;
     }
-    if file[at + 4] != kind(b) {
+    if file[at + 4] != format::kind(b) {
         return false;
     }
     if file[at + 5] != 1 {
@@ -147,14 +99,7 @@ fn marks_right(file: &[u8], count: usize) -> bool
     requires { 512 * count ≤ length file.now }
     ensures { result ≡ all_below count (marks_right_lem 1 file.now) }
 {
-    let mut b = 0;
-    while b < count {
-        if !mark_right(file, b) {
-            return false;
-        }
-        b += 1;
-    }
-    true
+    (0..count).all(|b| mark_right(file, b))
 }
 
 // The heading's numbers.
@@ -163,15 +108,11 @@ fn heading(file: &[u8]) -> Shape
     ensures { result ≡ shape_at 1 file.now }
 {
     let c = content(file, 0);
-    let p = two_bytes(c, 0);
-    let n = wide(c[2]);
-    let d = wide(c[3]);
-    let e = wide(c[4]);
     Shape {
-        p: p,
-        n: n,
-        d: d as usize,
-        e: e as usize,
+        p: two_bytes(c, 0),
+        n: u32::from(c[2]),
+        d: usize::from(c[3]),
+        e: usize::from(c[4]),
     }
 }
 
@@ -193,39 +134,25 @@ fn zero_or_used(d: usize, e: usize, b: usize, j: usize, x: u8) -> bool
     requires { (e ≤ 12) × (b < 3) × (j < 500) }
     ensures { result ≡ (used 1 d e b j || eqb x 0) }
 {
-    if has_use(d, e, b, j) {
-        return true;
-    }
-    x == 0
+    has_use(d, e, b, j) || x == 0
 }
 
 // Whether each byte of a block's content that has no use is 0.
-fn zeros_in(d: usize, e: usize, b: usize, c: &[u8]) -> bool
-    requires { (e ≤ 12) × (b < 3) × (length c.now ≡ 500) }
-    ensures { result ≡ all_below 500 (λ j. used 1 d e b j || eqb (place c.now j) 0) }
+fn zeros_in(file: &[u8], d: usize, e: usize, b: usize) -> bool
+    requires { (e ≤ 12) × (b < 3) × (512 * b + 512 ≤ length file.now) }
+    ensures { result ≡ zeros_right_lem 1 file.now d e b }
 {
-    let mut j = 0;
-    while j < c.len() {
-        if !zero_or_used(d, e, b, j, c[j]) {
-            return false;
-        }
-        j += 1;
-    }
-    true
+    content(file, b)
+        .iter()
+        .enumerate()
+        .all(|(j, x)| zero_or_used(d, e, b, j, *x))
 }
 
 fn zeros_right(file: &[u8], count: usize, d: usize, e: usize) -> bool
     requires { (e ≤ 12) × (count ≤ 3) × (512 * count ≤ length file.now) }
     ensures { result ≡ all_below count (zeros_right_lem 1 file.now d e) }
 {
-    let mut b = 0;
-    while b < count {
-        if !zeros_in(d, e, b, content(file, b)) {
-            return false;
-        }
-        b += 1;
-    }
-    true
+    (0..count).all(|b| zeros_in(file, d, e, b))
 }
 
 // 20: the block count, then the bytes that must be 0.
@@ -246,7 +173,7 @@ fn label(file: &[u8], k: usize) -> u32
     ensures { result ≡ record_at 1 file.now k 0 }
 {
     let c = content(file, 1 + k / 20);
-    wide(c[(k % 20) * 25])
+    u32::from(c[(k % 20) * 25])
 }
 
 // Entry i of the file, counted row by row.
@@ -264,15 +191,7 @@ fn labels_right(file: &[u8], n: u32, d: usize) -> bool
     requires { (d ≤ 32) × (512 * blocks 1 d ≤ length file.now) }
     ensures { result ≡ each (within 1 n) (labels_at 1 file.now d) }
 {
-    let mut k = 0;
-    while k < d {
-        let x = label(file, k);
-        if !scheme::between(1, n as usize, x as usize) {
-            return false;
-        }
-        k += 1;
-    }
-    true
+    (0..d).all(|k| scheme::between(1, n as usize, label(file, k) as usize))
 }
 
 // 7: the entries.
@@ -280,75 +199,61 @@ fn entries_right(file: &[u8], p: u32, d: usize, e: usize) -> bool
     requires { (d ≤ 32) × (0 < e) × (e ≤ 12) × (512 * blocks 1 d ≤ length file.now) }
     ensures { result ≡ each_below p (entries_at 1 file.now d e) }
 {
-    let all = d * e;
-    let mut i = 0;
-    while i < all {
-        if entry(file, e, i) >= p {
-            return false;
-        }
-        i += 1;
-    }
-    true
+    (0..d * e).all(|i| entry(file, e, i) < p)
 }
 
 fn length_right(size: usize) -> bool
     ensures { result ≡ length_right_lem size }
 {
-    if size == 1024 {
-        return true;
-    }
-    size == 1536
+    size == 1024 || size == 1536
 }
 
 // 5, 17, 18 and 19.
-fn blocks_refusal(file: &[u8], labels: usize, entries: usize) -> u32
+#[tactic(auto, unfolding(crate::specs::Parts::blocks_refusal_lem))]
+fn blocks_refusal(file: &[u8], labels: usize, entries: usize) -> Result<(), Refusal>
     ensures { result ≡ blocks_refusal_lem file.now labels entries }
 {
-    if !scheme::both_same(labels, 32, entries, 384) {
-        return 5;
+    if labels != 32 || entries != 384 {
+        return Err(Refusal::Length);
     }
     if !length_right(file.len()) {
-        return 17;
+        return Err(Refusal::FileLength);
     }
     let count = file.len() / 512;
     if !checks_right(file, count) {
-        return 18;
+        return Err(Refusal::BlockCheck);
     }
     if !marks_right(file, count) {
-        return 19;
+        return Err(Refusal::BlockMark);
     }
-    0
+    Ok(())
 }
 
 // 1 to 4, 20, 6 and 7.
-fn scheme_refusal(file: &[u8]) -> u32
+#[tactic(auto, unfolding(crate::specs::Parts::scheme_refusal_lem, scheme::specs::Refusal::content_refusal_lem))]
+fn scheme_refusal(file: &[u8]) -> Result<(), Refusal>
     requires { (512 ≤ length file.now) × (length file.now ≤ 1536) }
     ensures { result ≡ scheme_refusal_lem file.now (shape_at 1 file.now) }
 {
     let s = heading(file);
-    let bad = scheme::numbers_refusal(s);
-    if bad != 0 {
-        return bad;
-    }
+    scheme::numbers_refusal(s)?;
     if !rest_right(file, s) {
-        return 20;
+        return Err(Refusal::FileRest);
     }
     if !labels_right(file, s.n, s.d) {
-        return 6;
+        return Err(Refusal::Label);
     }
     if !entries_right(file, s.p, s.d, s.e) {
-        return 7;
+        return Err(Refusal::Entry);
     }
-    0
+    Ok(())
 }
 
-fn refusal(file: &[u8], labels: usize, entries: usize) -> u32
+#[tactic(auto, using(crate::proofs::Order::blocks_pass, crate::proofs::Order::blocks_sized))]
+fn refusal(file: &[u8], labels: usize, entries: usize) -> Result<(), Refusal>
     ensures { result ≡ read_refusal1 file.now labels entries }
 {
-    let bad = blocks_refusal(file, labels, entries);
-    if bad != 0 {
-        return bad;
-    }
+    blocks_refusal(file, labels, entries)?;
     scheme_refusal(file)
 }
 
@@ -356,10 +261,8 @@ fn fill_labels(file: &[u8], d: usize, labels: &mut [u32])
     requires { (d ≤ length labels.old) × (512 * blocks 1 d ≤ length file.now) }
     ensures { labels.new ≡ over (labels_at 1 file.now d) labels.old }
 {
-    let mut k = 0;
-    while k < d {
-        labels[k] = label(file, k);
-        k += 1;
+    for (k, x) in labels[..d].iter_mut().enumerate() {
+        *x = label(file, k);
     }
 }
 
@@ -367,26 +270,21 @@ fn fill_entries(file: &[u8], d: usize, e: usize, entries: &mut [u32])
     requires { (0 < e) × (e ≤ 12) × (d * e ≤ length entries.old) × (512 * blocks 1 d ≤ length file.now) }
     ensures { entries.new ≡ over (entries_at 1 file.now d e) entries.old }
 {
-    let all = d * e;
-    let mut i = 0;
-    while i < all {
-        entries[i] = entry(file, e, i);
-        i += 1;
+    for (i, x) in entries[..d * e].iter_mut().enumerate() {
+        *x = entry(file, e, i);
     }
 }
 
 // Reads a scheme file into the two lent lists. Wrong answers that the contract rules out: 19 for a file with a wrong mark in one block and a
 // wrong check in a later one; a scheme with the places past its d labels set to 0.
-pub fn read(file: &[u8], labels: &mut [u32], entries: &mut [u32]) -> Made
+#[tactic(auto, unfolding(crate::specs::Says::ReadSays))]
+pub fn read(file: &[u8], labels: &mut [u32], entries: &mut [u32]) -> Result<Shape, Refusal>
     ensures { ReadSays file.now labels.old entries.old
         result labels.new entries.new }
 {
-    let bad = refusal(file, labels.len(), entries.len());
-    if bad != 0 {
-        return Made::Refused(bad);
-    }
+    refusal(file, labels.len(), entries.len())?;
     let s = heading(file);
     fill_labels(file, s.d, labels);
     fill_entries(file, s.d, s.e, entries);
-    Made::Scheme(s)
+    Ok(s)
 }

@@ -1,12 +1,12 @@
--- Bytes copied to the first places of a list, and the cases of what is said of them.
+-- Bytes copied to the first places of a list, and what is said of them.
 -- Assumes nothing.
-use mathlib.Core.Path.{◌≡◌, refl}
-use mathlib.Core.Bool.{true, false}
+use mathlib.Core.Path.{◌≡◌}
+use mathlib.Core.Bool.{true}
 use mathlib.Core.List.{List}
-use Prim.Native.Nat.{ℕ, ◌≤◌, ◌<◌}
+use Prim.Native.Nat.{ℕ, ◌≤◌}
 use native.Mathlib.Omega.{arith}
 use lib.ListN.{length}
-use borrow.Author.Tests.{lt-leb, le-leb}
+use borrow.Author.Tests.{le-leb}
 use Rattle.lists.proofs.Fill.{Filled, filled}
 use Rattle.linear.specs.Flat.{place}
 use Rattle.scheme.specs.Tests.{each_below}
@@ -20,13 +20,6 @@ pub copied : (xs out₀ out : List ℕ) (i : ℕ) → Filled 0 (length xs) (plac
 copied xs out₀ out i h l fits =
     over_is xs out₀ out h.size fits (filled (length xs) (place xs) out₀ out i h l) (λ j m. h.after j (omega (arith, h.upto)))
 
--- There are not places for all; a number is no byte; the bytes stand over the first places.
-module _ (xs out₀ : List ℕ) where
-  pub no_places : length out₀ < length xs → BytesSay xs out₀ false out₀
-  no_places l = (simp (lt-leb (length xs) (length out₀) l), refl)
-
-  pub no_bytes : each_below 256 xs ≡ false → length xs ≤ length out₀ → BytesSay xs out₀ false out₀
-  no_bytes e l = (simp (le-leb (length xs) (length out₀) l, e), refl)
-
-  pub bytes : (out : List ℕ) → each_below 256 xs ≡ true → length xs ≤ length out₀ → out ≡ over xs out₀ → BytesSay xs out₀ true out
-  bytes out e l h = (simp (le-leb (length xs) (length out₀) l, e), h)
+-- The numbers are bytes with a place for each, and stand over the first places.
+pub bytes : (xs out₀ out : List ℕ) → each_below 256 xs ≡ true → length xs ≤ length out₀ → out ≡ over xs out₀ → BytesSay xs out₀ true out
+bytes xs out₀ out e l h = (simp (le-leb (length xs) (length out₀) l, e), h)

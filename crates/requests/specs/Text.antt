@@ -1,10 +1,7 @@
 -- The place of a byte in a text. The numbers of a text: decimal numbers below 2^32 with one space between.
 -- Assumes nothing.
-use Rattle.std.specs.Prelude.{◌≡◌, Bool, true, false, ◌&&◌, cond, List, [], ◌∷◌, ◌++◌, ℕ, ◌+◌, ◌*◌, ◌-◌, ◌≤◌, eqb, leb, ltb, length, take}
+use Rattle.std.specs.Prelude.{◌≡◌, Bool, true, false, ◌&&◌, cond, List, [], ◌∷◌, ◌++◌, ℕ, ◌+◌, ◌*◌, ◌-◌, ◌≤◌, eqb, leb, ltb, length, take, Option, Some, None, is_some, unwrap_or}
 use Rattle.std.specs.List.{position_or_len}
-use Rattle.requests.specs.declared.Read.{Read}
-use Rattle.requests.specs.declared.Read.TheVariants.{Count, Bad}
-use Rattle.requests.specs.declared.Reading.{Reading}
 
 -- The place of the first such byte of a text; the text's length where there is none.
 abbrev pub index_of : ℕ → List ℕ → ℕ
@@ -16,6 +13,11 @@ is_digit byte = leb 48 byte && leb byte 57
 -- The value of a number's digits with one more digit.
 abbrev pub grown : ℕ → ℕ → ℕ
 grown value byte = value * 10 + (byte - 48)
+
+-- A number that is being read, none where it has no digit yet, with one more byte; none where that is no digit or the number is too large.
+abbrev pub with_digit_lem : Option ℕ → ℕ → Option ℕ
+with_digit_lem value byte =
+    cond (is_digit byte && ltb (grown (unwrap_or value 0) byte) 4294967296) (Some (grown (unwrap_or value 0) byte)) None
 
 -- A number is being read: has it a digit, and its value so far. Does the rest of the text end it and go on with numbers?
 unfoldable pub goes_on : Bool → ℕ → List ℕ → Bool
@@ -43,18 +45,16 @@ abbrev pub fits : List ℕ → ℕ → Bool
 fits text places = are_numbers text && leb (length (numbers_of text)) places
 
 -- What is said of a text, and what the first places hold then.
-abbrev pub ReadSays : List ℕ → List ℕ → Read → Type 0
-ReadSays text out (Count k) = (are_numbers text ≡ true) × (numbers_of text ≡ take k out) × (k ≤ length out)
-ReadSays text out Bad = fits text (length out) ≡ false
+abbrev pub ReadSays : List ℕ → List ℕ → Option ℕ → Type 0
+ReadSays text out (Some k) = (are_numbers text ≡ true) × (numbers_of text ≡ take k out) × (k ≤ length out)
+ReadSays text out None = fits text (length out) ≡ false
 
 -- A text read in part: the first `count` places and then `more` are its numbers, and it is one of numbers where `goes`; or it is bad.
-unfoldable pub Stored : List ℕ → List ℕ → Bool → ℕ → List ℕ → Bool → Type 0
-Stored text out true count more goes = (take count out ++ more ≡ numbers_of text) × (goes ≡ are_numbers text) × (count ≤ length out)
-Stored text out false count more goes = fits text (length out) ≡ false
+unfoldable pub Stored : List ℕ → List ℕ → Option ℕ → List ℕ → Bool → Type 0
+Stored text out (Some count) more goes = (take count out ++ more ≡ numbers_of text) × (goes ≡ are_numbers text) × (count ≤ length out)
+Stored text out None more goes = fits text (length out) ≡ false
 
--- The same where `rest` is to be read.
-abbrev pub ReadsOn : List ℕ → List ℕ → Bool → ℕ → Bool → ℕ → List ℕ → Type 0
-ReadsOn text out good count seen value rest = Stored text out good count (numbers_from value rest) (goes_on seen value rest)
-
-abbrev pub Reads : List ℕ → List ℕ → Reading → List ℕ → Type 0
-Reads text out state rest = ReadsOn text out state.good state.count state.seen state.value rest
+-- The same where `rest` is to be read, by the value of the number that is being read, none where it has no digit yet.
+abbrev pub ReadsOn : List ℕ → List ℕ → Option ℕ → Option ℕ → List ℕ → Type 0
+ReadsOn text out count value rest =
+    Stored text out count (numbers_from (unwrap_or value 0) rest) (goes_on (is_some value) (unwrap_or value 0) rest)

@@ -35,10 +35,6 @@ pub record Inverting (p x acc y : ℕ) : Type 0 where
   pub small : acc < p
   pub is : acc * x % p ≡ y
 
-pub invert_start : (p x : ℕ) → Prime p → (x % p ≡ 0 → ⊥) → Inverting p x 1 (x % p)
-invert_start p x P h =
-    record { pos = omega arith; low = mod-lt x (omega (arith, P.two)); small = P.two; is = ap (λ (z : ℕ). z % p) (omega arith) }
-
 -- One turn: p = (p / y) y + r with r = p % y, so (p - p / y) y is r modulo p.
 pub invert_turn : (p x acc y r : ℕ) → Prime p → 1 < y → Inverting p x acc y → r ≡ acc * (p - p / y) % p → r < p → Inverting p x r (p % y)
 invert_turn p x acc y r P l h e s = record {
@@ -61,6 +57,3 @@ invert_turn p x acc y r P l h e s = record {
 
     back : (q + p / y) * y ≡ p * y
     back = ap (λ (z : ℕ). z * y) (sub-add_cancel (div-le_self p y))
-
-pub invert_end : (p x acc y : ℕ) → Inverting p x acc y → y ≤ 1 → (acc * x % p ≡ 1) × (acc < p)
-invert_end p x acc y h l = (h.is ∙ omega (arith, h.pos), h.small)

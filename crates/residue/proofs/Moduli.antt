@@ -1,14 +1,14 @@
--- Every modulus is prime: one test, computed over the whole table, and its lift to each entry. And the search of a list.
+-- Every modulus is prime: one test, computed over the whole table, and its lift to each entry. And a step along a list.
 -- Assumes nothing.
-use mathlib.Core.Path.{◌≡◌, refl, sym, ap, subst, ◌∙◌}
+use native.Mathlib.Numerals.{add-one}
+use lib.ListN.{length, drop, get_or}
+use lib.Seq.{drop-cons}
+use mathlib.Core.Path.{◌≡◌, refl, subst}
 use mathlib.Core.Bool.{Bool, true, false, ◌||◌, ◌&&◌, false≢true}
 use mathlib.Core.List.{List, [], ◌∷◌}
-use Prim.Native.Nat.{ℕ, ◌+◌, ◌-◌, ◌≤◌, ◌<◌, min}
-use native.Mathlib.Numerals.{add-one}
+use Prim.Native.Nat.{ℕ, ◌+◌, ◌-◌, ◌<◌, min}
 use lib.Dec.{T, eqb}
-use lib.ListN.{length, drop, get_or, drop_of_length-le}
-use lib.Seq.{drop-cons}
-use borrow.Author.Tests.{eqb-true, eq-eqb, ne_eqb}
+use borrow.Author.Tests.{eqb-true}
 use Rattle.residue.specs.Prime.{Prime}
 use Rattle.residue.specs.Moduli.{moduli, is_in, is_modulus_lem}
 use Rattle.residue.proofs.Prime.{is_prime, is_prime_sound, and_l, and_r}
@@ -41,17 +41,3 @@ modulus_prime p h = is_prime_sound p (min (p - 2) 65534) (all_lift passes p modu
 -- The list from i on is its entry at i and the list from i + 1 on.
 pub drop_next : (xs : List ℕ) (i : ℕ) → i < length xs → drop i xs ≡ get_or xs i 0 ∷ drop (i + 1) xs
 drop_next xs i h = rw (add-one, drop-cons xs i 0)
-
--- A loop that looks for x through a list: what is left of the list at place i gives the answer for all of it.
-module _ (x : ℕ) (xs : List ℕ) (i : ℕ) where
-  pub is_here : is_in x (drop i xs) ≡ is_in x xs → i < length xs → get_or xs i 0 ≡ x → true ≡ is_in x xs
-  unfolding is_in
-  is_here inv h e = sym (sym inv ∙ ap (is_in x) (drop_next xs i h) ∙ simp (eq-eqb _ _ e))
-
-  pub is_later : is_in x (drop i xs) ≡ is_in x xs → i < length xs → (get_or xs i 0 ≡ x → ⊥) → is_in x (drop (i + 1) xs) ≡ is_in x xs
-  unfolding is_in
-  is_later inv h n = sym (sym inv ∙ ap (is_in x) (drop_next xs i h) ∙ simp (ne_eqb _ _ n))
-
-  pub is_nowhere : is_in x (drop i xs) ≡ is_in x xs → length xs ≤ i → false ≡ is_in x xs
-  unfolding is_in
-  is_nowhere inv h = ap (is_in x) (sym (drop_of_length-le xs h)) ∙ inv

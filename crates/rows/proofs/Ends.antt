@@ -5,7 +5,6 @@ use mathlib.Core.List.{List}
 use mathlib.Core.Bool.{Bool, true, false}
 use Prim.Native.Nat.{ℕ, suc, ◌<◌, ◌+◌}
 use native.Mathlib.Nat.{mod-eq_of_lt}
-use native.Mathlib.Omega.{arith}
 use lib.ListN.{length, get_or}
 use Rattle.residue.specs.Prime.{Prime}
 use Rattle.residue.specs.Residue.{res}
@@ -16,8 +15,8 @@ use Rattle.lines.specs.Line.{at, Stepped}
 use Rattle.backward.specs.Solution.{Killed}
 use Rattle.linear.specs.Bits.{bit}
 use Rattle.rows.specs.Answered.{Answered}
-use Rattle.rows.specs.State.{State, Going, Next}
-use Rattle.rows.proofs.Turns.{made_chosen, witness_end, rank_end}
+use Rattle.rows.specs.State.{State, Going}
+use Rattle.rows.proofs.Turns.{witness_end, rank_end}
 
 -- r has the length that it had.
 pub going_length : (p f d : ℕ) (E : ℕ → ℕ → ℕ) (chosen : ℕ → Bool) (k s : ℕ) (t : List (List ℕ)) (r₀ : List ℕ) (o : Bool) (r : List ℕ)
@@ -38,28 +37,23 @@ state_stepped p f E chosen k s t H st j l = (
   λ i lj li. res_zero p H (res p H (at t i (at t j 25))) ((st.basis H).low i li j lj),
 )
 
--- A line with a pivot has an inverse below p.
-pub next_inverse : (p e k s : ℕ) (w : Bool) (m : List ℕ) (t : List (List ℕ)) (v : List ℕ) → Next p e k s w m t v → get_or v 25 0 + 1 ≡ e
-    → get_or v 24 0 < p
-next_inverse p e k s w m t v nx z = (nx.made (made_chosen p e k s w m t v nx (omega arith))).2.inv
-
 module _ (p e f d chosen : ℕ) (m : List ℕ) (q : e ≡ suc f) (H : Prime p) (k s : ℕ) (t : List (List ℕ)) (r₀ z r : List ℕ) (o : Bool)
     (n₀ : length r₀ ≡ d) (kd : k ≡ d) (g : Going p f d (entry e m) (bit chosen) k s t r₀ o r) where
   rank : Rank p d e (entry e m) (bit chosen) s
   rank = subst⁻¹ (λ (e' : ℕ). Rank p d e' (entry e m) (bit chosen) s) q
       (rank_end p e f d m (bit chosen) q s t (subst (λ (k : ℕ). State p f (entry e m) (bit chosen) k s t) kd g.state) H)
 
-  pub answered_open : o ≡ true → Answered p d e chosen m r₀ z (record { opens = true; rank = s }) r z
-  answered_open h = record {
+  pub answered_open : o ≡ true → Answered p d e chosen m r₀ z (record { opens = o; rank = s }) r z
+  answered_open h = subst⁻¹ (λ o. Answered p d e chosen m r₀ z (record { opens = o; rank = s }) r z) h (record {
     handed =
         (subst⁻¹ (λ (e' : ℕ). OpeningVector p d e' (entry e m) (bit chosen) (place r)) q (g.if_open h).0, (g.if_open h).1 ∙ n₀, refl);
     rank = rank;
-  }
+  })
 
   pub answered_closed : o ≡ false → (y z' : List ℕ) → ((i : ℕ) → get_or y i 0 < p) → get_or y f 0 ≡ 1 → Killed p s t f 0 y → length z' ≡ e
       → get_or z' 0 0 ≡ get_or y f 0 → ((i : ℕ) → i < f → get_or z' (1 + i) 0 ≡ get_or y i 0)
-      → Answered p d e chosen m r₀ z (record { opens = false; rank = s }) r z'
-  answered_closed h y z' small one kills n z0 zs = record {
+      → Answered p d e chosen m r₀ z (record { opens = o; rank = s }) r z'
+  answered_closed h y z' small one kills n z0 zs = subst⁻¹ (λ o. Answered p d e chosen m r₀ z (record { opens = o; rank = s }) r z') h (record {
     handed = (
       subst⁻¹ (λ (e' : ℕ). Witness p d e' (entry e m) (bit chosen) (place z')) q
           (witness_end p e f d m (bit chosen) q s t
@@ -68,4 +62,4 @@ module _ (p e f d chosen : ℕ) (m : List ℕ) (q : e ≡ suc f) (H : Prime p) (
       (g.if_closed h).0,
     );
     rank = rank;
-  }
+  })

@@ -8,10 +8,10 @@ use Prim.Native.Nat.{ℕ, zero, suc, ◌<◌, ◌≤◌, ◌+◌}
 use native.Mathlib.Nat.{not-suc-le-zero}
 use native.Mathlib.Numerals.{add-one, one-add}
 use native.Mathlib.Omega.{arith}
-use lib.Dec.{ltb}
+use lib.Dec.{ltb, eqb}
 use lib.ListN.{length, get_or, set, length-set}
 use lib.Seq.{get_or-set_same, get_or-set_other}
-use borrow.Author.Tests.{ltb-false}
+use borrow.Author.Tests.{ltb-false, eqb-true, eq-eqb}
 use Rattle.algebra.proofs.Cases.{lt_or_ge, same?}
 use Rattle.algebra.proofs.Ring.{mul-zero}
 use Rattle.algebra.proofs.Sum.{put_lt, put_at}
@@ -28,9 +28,9 @@ use Rattle.echelon.proofs.Steps.{start, drop_zero}
 use Rattle.echelon.proofs.Backward.{solve_end, kill_rows, kill_canon}
 use Rattle.echelon.proofs.Order.{opening_of, witness_of}
 use Rattle.echelon.proofs.Rank.{full, rank_rows}
-use Rattle.lines.specs.Line.{Low, Lows, at, left, Lined, Shaped}
+use Rattle.lines.specs.Line.{Low, Lows, at, left, Shaped}
 use Rattle.backward.specs.Solution.{lines_of, Found, asked, facs_of, vec_of, Opened, Killed}
-use Rattle.rows.specs.State.{work_of, State, Going, row_at, RowLine, Next}
+use Rattle.rows.specs.State.{work_of, State, Going, RowLine, Next}
 use Rattle.rows.proofs.Steps.{reduced, some_before, some_unit, basis_drop, basis_keep, space, row_work, row_out}
 
 pub lows_set : (p : ℕ) (t : List (List ℕ)) (s : ℕ) (v : List ℕ) → s < length t → Low p v → Lows p t → Lows p (set t s v)
@@ -54,10 +54,18 @@ pivots_set P t s v l h new j lj = ⊎_elim
 abbrev pub Stored : ℕ → ℕ → List ℕ → List (List ℕ) → ℕ → List (List ℕ) → Type 0
 Stored e s v t s' t' = (get_or v 25 0 < e → (s' ≡ s + 1) × (t' ≡ set t s v)) × (e ≤ get_or v 25 0 → (s' ≡ s) × (t' ≡ t))
 
--- What `settle` does: r is filled where the line's pivot is at the last place, and else all is as it was.
+-- What `ask` does with a line: r is filled where the line's pivot is at the last place, and else all is as it was.
 abbrev pub Settled : ℕ → ℕ → ℕ → ℕ → List (List ℕ) → List ℕ → Bool → List ℕ → Bool → List ℕ → Type 0
 Settled p e k s t v o r o' r' = (get_or v 25 0 + 1 ≡ e → (o' ≡ true) × Opened p k s t v r r') ×
     ((get_or v 25 0 + 1 ≡ e → ⊥) → (o' ≡ o) × (r' ≡ r))
+
+pub settled_target : {p e k s : ℕ} {t : List (List ℕ)} {v r r' : List ℕ} {o o' : Bool} → true ≡ eqb (get_or v 25 0 + 1) e → o' ≡ true
+    → Opened p k s t v r r' → Settled p e k s t v o r o' r'
+settled_target {e = e} {v = v} z q h = ((λ _. (q, h)), λ ne. absurd (ne (eqb-true (get_or v 25 0 + 1) e (sym z))))
+
+pub settled_other : {p e k s : ℕ} {t : List (List ℕ)} {v r r' : List ℕ} {o o' : Bool} → false ≡ eqb (get_or v 25 0 + 1) e → o' ≡ o
+    → r' ≡ r → Settled p e k s t v o r o' r'
+settled_other {e = e} {v = v} z q h = ((λ w. absurd (false≢true (z ∙ eq-eqb (get_or v 25 0 + 1) e w))), λ _. (q, h))
 
 -- A line with a pivot is that of a wanted row.
 pub made_chosen : (p e k s : ℕ) (w : Bool) (m : List ℕ) (t : List (List ℕ)) (v : List ℕ) → Next p e k s w m t v → get_or v 25 0 < e → w ≡ true
@@ -252,11 +260,7 @@ module _ (p e f d : ℕ) (m : List ℕ) (chosen : ℕ → Bool) (q : e ≡ suc f
   rank_end s t st H = rank_unmask p (suc f) (entry e m) chosen d s (kept_count p H (suc f) (rows_of (entry e m) chosen) d s
       (rank_rows (residues p H) f (matrix p H (entry e m) chosen) d s (lines_of p H t) (st.basis H)))
 
--- What a wanted row gives, and one that is not wanted.
-pub next_made : (p e k s : ℕ) (w : Bool) (m : List ℕ) (t : List (List ℕ)) (v row : List ℕ) → w ≡ true → Shaped p e v
-    → ((i : ℕ) → i < e → get_or row i 0 ≡ row_at e m k i) → Lined p e k s t (λ i. get_or row i 0) v → Next p e k s w m t v
-next_made p e k s w m t v row q sh rows ln = record { shape = sh; out = λ f. absurd (true≢false (sym q ∙ f)); made = λ h. (row, rows, ln) }
-
+-- What a row gives that is not wanted.
 pub next_out : (p e k s : ℕ) (w : Bool) (m : List ℕ) (t : List (List ℕ)) (v : List ℕ) → w ≡ false → (length v ≡ 27) × Low p v
     → get_or v 25 0 ≡ e
     → Next p e k s w m t v

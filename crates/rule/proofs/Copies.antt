@@ -1,22 +1,19 @@
 -- Laws of the copies: rows one after another.
 -- Assumes nothing.
-use mathlib.Core.Path.{◌≡◌, refl, subst, ◌∙◌}
+use mathlib.Core.Path.{◌≡◌, ap, ◌∙◌}
 use mathlib.Core.List.{List, []}
 use Prim.Native.Nat.{ℕ, ◌+◌, ◌*◌, ◌≤◌}
-use native.Mathlib.Nat.{le_antisymm}
 use native.Mathlib.Omega.{arith}
 use lib.ListN.{length, get_or, take}
 use lib.Seq.{get_or-take, length-take-le}
+use borrow.Rule.Slice.PartMut.{put_mid}
 use Rattle.algebra.proofs.Cases.{below_suc}
-use Rattle.lists.proofs.Fill.{Filled}
+use Rattle.lists.proofs.Fill.{Filled, filled_part}
 use Rattle.lists.proofs.Store.{row_fits}
 use Rattle.linear.specs.Flat.{place}
 use Rattle.rule.specs.Copied.{Copied}
 
 module _ (e : ℕ) (table : List (List ℕ)) (x₀ : List ℕ) where
-  pub copied_start : Copied 0 e table x₀ x₀
-  copied_start = record { size = refl; done = λ k j l m. absurd (omega arith); after = λ i l. refl }
-
   -- The first e numbers of row k are copied to place k * e.
   pub copied_turn : (x y : List ℕ) (k : ℕ) → Copied k e table x₀ x → Filled (k * e) e (place (get_or table k [])) x y e
       → Copied (k + 1) e table x₀ y
@@ -28,19 +25,9 @@ module _ (e : ℕ) (table : List (List ℕ)) (x₀ : List ℕ) where
     after = λ i l. f.after i (omega arith) ∙ h.after i (omega arith);
   }
 
-  -- All d rows.
-  pub copied_all : (x : List ℕ) (d k : ℕ) → Copied k e table x₀ x → k ≤ d → d ≤ k → Copied d e table x₀ x
-  copied_all x d k h l m = subst (λ (n : ℕ). Copied n e table x₀ x) (le_antisymm l m) h
-
--- The first e numbers of a row are the row's.
-pub filled_part : (at e n : ℕ) (row x₀ x : List ℕ) → n ≡ e → e ≤ length row
-    → Filled at (length (take n row)) (place (take n row)) x₀ x (length (take n row)) → Filled at e (place row) x₀ x e
-filled_part at e n row x₀ x q l h =
-    let long = length-take-le n row (omega arith) in
-    record {
-      upto = omega arith;
-      size = h.size;
-      done = λ k lk. h.done k (omega arith) ∙ get_or-take n row k 0 (omega arith);
-      before = h.before;
-      after = λ j lj. h.after j (omega arith);
-    }
+-- The first e numbers of a row, copied over a part of a list.
+pub row_copied : (at e w : ℕ) (row x₀ ys : List ℕ) → ys ≡ take e row → e ≤ length row → w ≡ e → at + e ≤ length x₀
+    → Filled at e (place row) x₀ (put_mid at w x₀ ys) e
+row_copied at e w row x₀ ys q long same fits =
+    filled_part at e w (place row) x₀ ys (ap length q ∙ length-take-le e row long) same fits
+    (λ k l. ap (λ y. get_or y k 0) q ∙ get_or-take e row k 0 l)

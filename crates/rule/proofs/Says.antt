@@ -1,13 +1,14 @@
--- What `build` answers, from what its steps answer; that its contract settles the outcome; that what it writes is a scheme, which opens for
--- exactly the sets for which the rule is true.
+-- That the contract of `build` settles the outcome; that what it writes is a scheme, which opens for exactly the sets for which the rule is
+-- true.
 -- Assumes nothing.
+use Rattle.std.specs.Prelude.{Result, Ok, Err}
 use mathlib.Core.Path.{◌≡◌, refl, sym, ap, subst, subst⁻¹, ◌∙◌}
-use mathlib.Core.Bool.{Bool, true, false, ◌&&◌, true≢false}
+use mathlib.Core.Bool.{Bool, true, false, true≢false}
 use mathlib.Core.List.{List}
 use mathlib.Core.Logic.{◌⊎◌, inl, inr, ◌↔◌}
 use Prim.Native.Nat.{ℕ, ◌*◌, ◌<◌}
 use native.Mathlib.Omega.{arith}
-use lib.Dec.{eqb, leb, ltb}
+use lib.Dec.{leb, ltb}
 use lib.ListN.{length, get_or, take}
 use borrow.Author.Tests.{eqb-true, eq-eqb, leb-true, lt-ltb}
 use Rattle.residue.specs.Prime.{Prime}
@@ -17,16 +18,16 @@ use Rattle.linear.specs.Flat.{entry}
 use Rattle.linear.specs.Rows as Rows
 use Rattle.linear.proofs.Rows.{open_same}
 use Rattle.scheme.specs.declared.Shape.{Shape}
-use Rattle.scheme.specs.declared.Made.{Made}
-use Rattle.scheme.specs.declared.Made.TheVariants.{Scheme, Refused}
+use Rattle.scheme.specs.declared.Refusal.{Refusal}
 use Rattle.scheme.specs.Outcome.{over}
 use Rattle.scheme.specs.Open as Set
 use Rattle.scheme.specs.Sets.{in_set, of_set}
-use Rattle.scheme.specs.Tests.{within, each, each_below, unless, or_else}
+use Rattle.scheme.specs.Tests.{within, each, each_below}
 use Rattle.scheme.specs.Refusal.{numbers_refusal_lem, content_refusal_lem, refusal_of, IsScheme}
 use Rattle.scheme.proofs.Tests.{and-true, within_is, each_at, each_by}
+use Rattle.scheme.proofs.Outcomes.{not_both, one_refusal}
 use Rattle.scheme.proofs.Over.{take_over}
-use Rattle.scheme.proofs.Refusals.{or_else_zero, unless_zero}
+use Rattle.scheme.proofs.Refusals.{or_else_ok, unless_ok}
 use Rattle.rules.specs.Tree.{Rule, rule_names, rule_holds}
 use Rattle.rules.specs.Text.{IsRule}
 use Rattle.rules.specs.Construction.{columns, rows, labels_of, entries_of}
@@ -48,79 +49,61 @@ pub record Front (p n labelPlaces entryPlaces : ℕ) : Type 0 where
   pub entry_places : entryPlaces ≡ 384
   pub prime : Prime p
 
-pub front_parts : (p n labelPlaces entryPlaces : ℕ) → front_refusal_lem p n labelPlaces entryPlaces ≡ 0 → Front p n labelPlaces entryPlaces
+pub front_parts : (p n labelPlaces entryPlaces : ℕ) → front_refusal_lem p n labelPlaces entryPlaces ≡ Ok tt → Front p n labelPlaces entryPlaces
 front_parts p n labelPlaces entryPlaces h =
-    let lengths = eqb labelPlaces 32 && eqb entryPlaces 384 in
-    let a = or_else_zero (unless (is_modulus_lem p) 1) (or_else (unless (within 1 16 n) 2) (unless lengths 5)) h in
-    let b = or_else_zero (unless (within 1 16 n) 2) (unless lengths 5) a.1 in
-    let c = and-true (eqb labelPlaces 32) (eqb entryPlaces 384) (unless_zero lengths 4 b.1) in
-    let modulus = unless_zero (is_modulus_lem p) 0 a.0 in
+    let a = or_else_ok _ _ h in
+    let b = or_else_ok _ _ a.1 in
+    let c = and-true _ _ (unless_ok _ _ b.1) in
+    let modulus = unless_ok _ _ a.0 in
     record {
       modulus = modulus;
-      participants = unless_zero (within 1 16 n) 1 b.0;
+      participants = unless_ok _ _ b.0;
       label_places = eqb-true labelPlaces 32 c.0;
       entry_places = eqb-true entryPlaces 384 c.1;
       prime = modulus_prime p modulus;
     }
 
--- The three ways out of `build`.
 module _ (p n : ℕ) (t labels entries : List ℕ) where
-  pub says_front : (k : ℕ) → k ≡ front_refusal_lem p n (length labels) (length entries) → (k ≡ 0 → ⊥)
-      → RuleSays p n t labels entries (Refused k) labels entries
-  unfolding RuleSays
-  says_front k e h = (inl (sym e, omega arith), refl, refl)
-
-  pub says_text : (k : ℕ) → front_refusal_lem p n (length labels) (length entries) ≡ 0 → TextRefusal n t k → (k ≡ 0 → ⊥)
-      → RuleSays p n t labels entries (Refused k) labels entries
-  unfolding RuleSays
-  says_text k e r h = (inr (e, r, omega arith), refl, refl)
-
-  pub says_scheme : (s : Shape) (labels' entries' : List ℕ) → front_refusal_lem p n (length labels) (length entries) ≡ 0
-      → Written p n t labels entries s labels' entries' → RuleSays p n t labels entries (Scheme s) labels' entries'
-  unfolding RuleSays
-  says_scheme s labels' entries' e w = (e, w)
-
--- A refusal that is not 0 and one that is 0 exclude each other: the first refusal is one number, whichever part gives it.
-module _ (p n : ℕ) (t labels entries : List ℕ) where
-  abbrev front : ℕ
+  abbrev front : Result Unit Refusal
   front = front_refusal_lem p n (length labels) (length entries)
 
-  abbrev Why : ℕ → Type 0
-  Why k = ((front ≡ k) × (0 < k)) ⊎ ((front ≡ 0) × TextRefusal n t k × (0 < k))
+  -- Why a text is refused.
+  abbrev Why : Refusal → Type 0
+  Why k = (front ≡ Err k) ⊎ ((front ≡ Ok tt) × TextRefusal n t (Err k))
 
-  why_one : (j k : ℕ) → Why j → Why k → j ≡ k
-  why_one j k (inl a) (inl b) = sym a.0 ∙ b.0
-  why_one j k (inl a) (inr b) = absurd (omega (arith, a.0, a.1, b.0))
-  why_one j k (inr a) (inl b) = absurd (omega (arith, a.0, b.0, b.1))
-  why_one j k (inr a) (inr b) = text_refusal_one n t j k a.1 b.1
+  why_one : (j k : Refusal) → Why j → Why k → j ≡ k
+  why_one j k (inl a) (inl b) = one_refusal j k a b
+  why_one j k (inl a) (inr b) = absurd (not_both j b.0 a)
+  why_one j k (inr a) (inl b) = absurd (not_both k a.0 b)
+  why_one j k (inr a) (inr b) = one_refusal j k (text_refusal_one n t (Err k) (Err j) b.1 a.1) refl
 
-  not_refused : (r : Rule) (k : ℕ) → front ≡ 0 → IsRule t r → rule_refusal n r ≡ 0 → Why k → ⊥
-  not_refused r k e i h (inl a) = omega (arith, a.0, a.1)
-  not_refused r k e i h (inr a) = omega (arith, text_refusal_one n t 0 k (inr (r, i, h)) a.1, a.2)
+  not_refused : (r : Rule) (k : Refusal) → front ≡ Ok tt → IsRule t r → rule_refusal n r ≡ Ok tt → Why k → ⊥
+  not_refused r k e i h (inl a) = not_both k e a
+  not_refused r k e i h (inr a) = not_both k (text_refusal_one n t (Err k) (Ok tt) a.1 (inr (r, i, h))) refl
 
   -- Two outcomes that the contract permits are equal.
-  pub settled : (a b : Made) (labels₁ entries₁ labels₂ entries₂ : List ℕ) → RuleSays p n t labels entries a labels₁ entries₁
+  pub settled : (a b : Result Shape Refusal) (labels₁ entries₁ labels₂ entries₂ : List ℕ) → RuleSays p n t labels entries a labels₁ entries₁
       → RuleSays p n t labels entries b labels₂ entries₂ → (a ≡ b) × (labels₁ ≡ labels₂) × (entries₁ ≡ entries₂)
   unfolding RuleSays
-  settled (Scheme s) (Scheme s') labels₁ entries₁ labels₂ entries₂ x y =
+  settled (Ok s) (Ok s') labels₁ entries₁ labels₂ entries₂ x y =
       let v = x.1 in
       let w = y.1 in
       let q = one_tree t v.0 w.0 v.1 w.1 in (
-        ap Scheme (v.3 ∙ ap (shape_of p n) q ∙ sym w.3),
+        ap Ok (v.3 ∙ ap (shape_of p n) q ∙ sym w.3),
         v.4 ∙ ap (λ r. over (labels_of (rows p r)) labels) q ∙ sym w.4,
         v.5 ∙ ap (λ r. over (entries_of (rows p r)) entries) q ∙ sym w.5,
       )
-  settled (Scheme s) (Refused k) labels₁ entries₁ labels₂ entries₂ x y =
+  settled (Ok s) (Err k) labels₁ entries₁ labels₂ entries₂ x y =
       let v = x.1 in
       absurd (not_refused v.0 k x.0 v.1 v.2 y.0)
-  settled (Refused j) (Scheme s) labels₁ entries₁ labels₂ entries₂ x y =
+  settled (Err j) (Ok s) labels₁ entries₁ labels₂ entries₂ x y =
       let w = y.1 in
       absurd (not_refused w.0 j y.0 w.1 w.2 x.0)
-  settled (Refused j) (Refused k) labels₁ entries₁ labels₂ entries₂ x y =
-      (ap Refused (why_one j k x.0 y.0), x.1 ∙ sym y.1, x.2 ∙ sym y.2)
+  settled (Err j) (Err k) labels₁ entries₁ labels₂ entries₂ x y =
+      (ap Err (why_one j k x.0 y.0), x.1 ∙ sym y.1, x.2 ∙ sym y.2)
 
 -- The scheme of a rule of which nothing is refused.
-module _ (p n : ℕ) (t : List ℕ) (r : Rule) (i : IsRule t r) (h : rule_refusal n r ≡ 0) (modulus : is_modulus_lem p ≡ true) (people : within 1 16 n ≡ true) where
+module _ (p n : ℕ) (t : List ℕ) (r : Rule) (i : IsRule t r) (h : rule_refusal n r ≡ Ok tt) (modulus : is_modulus_lem p ≡ true) (people : within 1 16 n ≡ true) where
   labels_right : each (within 1 n) (rule_names r) ≡ true
   labels_right =
       each_by (within 1 n) (rule_names r)
@@ -176,8 +159,8 @@ module _ (p n : ℕ) (t : List ℕ) (r : Rule) (i : IsRule t r) (h : rule_refusa
           (of_set set (labels_of (rows p r))) (λ k j lk lj. sym (same k j lk lj)) (λ k l. sym (marks k l)) o
 
 -- What is written, as a scheme.
-module _ (p n : ℕ) (t labels entries : List ℕ) (s : Shape) (labels' entries' : List ℕ) (x : RuleSays p n t labels entries (Scheme s) labels' entries') where
-  parts : (front_refusal_lem p n (length labels) (length entries) ≡ 0) × Written p n t labels entries s labels' entries'
+module _ (p n : ℕ) (t labels entries : List ℕ) (s : Shape) (labels' entries' : List ℕ) (x : RuleSays p n t labels entries (Ok s) labels' entries') where
+  parts : (front_refusal_lem p n (length labels) (length entries) ≡ Ok tt) × Written p n t labels entries s labels' entries'
   unfolding RuleSays
   parts = x
 
@@ -222,10 +205,10 @@ module _ (p n : ℕ) (t labels entries : List ℕ) (s : Shape) (labels' entries'
       go false q c = q
 
 -- A rule that fits is built: no refusal is permitted.
-pub fitting_built : (p n : ℕ) (t labels entries : List ℕ) → front_refusal_lem p n (length labels) (length entries) ≡ 0 → (r : Rule) → IsRule t r
-    → rule_refusal n r ≡ 0 → (a : Made) (labels' entries' : List ℕ) → RuleSays p n t labels entries a labels' entries'
-    → a ≡ Scheme (shape_of p n r)
+pub fitting_built : (p n : ℕ) (t labels entries : List ℕ) → front_refusal_lem p n (length labels) (length entries) ≡ Ok tt → (r : Rule) → IsRule t r
+    → rule_refusal n r ≡ Ok tt → (a : Result Shape Refusal) (labels' entries' : List ℕ) → RuleSays p n t labels entries a labels' entries'
+    → a ≡ Ok (shape_of p n r)
 unfolding RuleSays
 fitting_built p n t labels entries h r i q a labels' entries' x =
-    (settled p n t labels entries a (Scheme (shape_of p n r)) labels' entries' (over (labels_of (rows p r)) labels)
+    (settled p n t labels entries a (Ok (shape_of p n r)) labels' entries' (over (labels_of (rows p r)) labels)
     (over (entries_of (rows p r)) entries) x (h, (r, i, q, refl, refl, refl))).0

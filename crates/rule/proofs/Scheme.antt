@@ -1,6 +1,7 @@
 -- What `build` writes is the scheme of the text's rule.
 -- Assumes nothing.
-use mathlib.Core.Path.{◌≡◌, sym, ap, ap₂, ◌∙◌}
+use Rattle.std.specs.Prelude.{Ok}
+use mathlib.Core.Path.{◌≡◌, refl, sym, ap, ap₂, ◌∙◌}
 use mathlib.Core.Bool.{true}
 use mathlib.Core.List.{List, []}
 use mathlib.Core.Logic.{inl, inr}
@@ -13,24 +14,27 @@ use lib.Seq.{get_or-take}
 use borrow.Author.Tests.{leb-true}
 use Rattle.lists.proofs.Fill.{Filled, filled_front}
 use Rattle.linear.specs.Flat.{place}
-use Rattle.scheme.specs.Tests.{each, unless, or_else}
+use Rattle.scheme.specs.declared.Refusal.TheVariants as R
+use Rattle.scheme.specs.Tests.{each}
 use Rattle.scheme.specs.Outcome.{over}
+use Rattle.scheme.proofs.Outcomes.{not_both}
 use Rattle.scheme.proofs.Over.{over_is}
-use Rattle.scheme.proofs.Refusals.{or_else_zero, unless_zero}
+use Rattle.scheme.proofs.Refusals.{or_else_ok, unless_ok}
 use Rattle.rules.specs.Tree.{Rule, rule_names}
 use Rattle.rules.specs.Text.{IsRule}
 use Rattle.rules.specs.Construction.{columns, rows, labels_of, entries_of}
 use Rattle.rules.proofs.Counting.{labels_are, rows_count, rows_below, entries_length, entries_at}
 use Rattle.rules.proofs.Numbers.{row_entry}
 use Rattle.reader.specs.Refusal.{rule_refusal, TextRefusal}
+use Rattle.std.specs.Prelude.{Option, Some, IsSome}
 use Rattle.builder.specs.declared.Place.{Place}
 use Rattle.builder.specs.Left.{Held, Left}
 use Rattle.rule.specs.Says.{shape_of}
 use Rattle.rule.specs.Copied.{Copied, Written}
 
 -- A text of which nothing is refused is a rule.
-rule_of : (n : ℕ) (t : List ℕ) → TextRefusal n t 0 → (r : Rule) × IsRule t r × (rule_refusal n r ≡ 0)
-rule_of n t (inl a) = absurd (omega (arith, a.0))
+rule_of : (n : ℕ) (t : List ℕ) → TextRefusal n t (Ok tt) → (r : Rule) × IsRule t r × (rule_refusal n r ≡ Ok tt)
+rule_of n t (inl a) = absurd (not_both R.NoRule refl a.0)
 rule_of n t (inr a) = a
 
 -- What holds of a rule of which nothing is refused.
@@ -39,17 +43,14 @@ pub record Fits (n : ℕ) (r : Rule) : Type 0 where
   pub few_rows : length (rule_names r) ≤ 32
   pub few_columns : columns r ≤ 12
 
-pub rule_fits : (n : ℕ) (r : Rule) → rule_refusal n r ≡ 0 → Fits n r
+pub rule_fits : (n : ℕ) (r : Rule) → rule_refusal n r ≡ Ok tt → Fits n r
 rule_fits n r h =
-    let named = each (λ i. leb i n) (rule_names r) in
-    let few = leb (length (rule_names r)) 32 in
-    let narrow = leb (columns r) 12 in
-    let a = or_else_zero (unless named 14) (or_else (unless few 15) (unless narrow 16)) h in
-    let b = or_else_zero (unless few 15) (unless narrow 16) a.1 in
+    let a = or_else_ok _ _ h in
+    let b = or_else_ok _ _ a.1 in
     record {
-      named = unless_zero named 13 a.0;
-      few_rows = leb-true (length (rule_names r)) 32 (unless_zero few 14 b.0);
-      few_columns = leb-true (columns r) 12 (unless_zero narrow 15 b.1);
+      named = unless_ok _ _ a.0;
+      few_rows = leb-true _ _ (unless_ok _ _ b.0);
+      few_columns = leb-true _ _ (unless_ok _ _ b.1);
     }
 
 -- Place i of a table of d rows of e numbers: its row and its column.
@@ -110,36 +111,44 @@ module _ (p : ℕ) (r : Rule) (made : Place) (es : List (List ℕ)) (ls : List �
           ∙ sym (get_or-take (columns r) (get_or es k []) j 0 q.column) ∙ ap (λ x. get_or x j 0) (held.entries k q.row)
           ∙ sym (entry_place p r i l)
 
-module _ (p n : ℕ) (t : List ℕ) (es : List (List ℕ)) (ls : List ℕ) (made : Place) (es' : List (List ℕ)) (ls' : List ℕ)
-    (h : TextRefusal n t 0) (m : Left p t es ls made es' ls') (a : 32 ≤ length es) (b : 32 ≤ length ls) where
+module _ (p n : ℕ) (t : List ℕ) (es : List (List ℕ)) (ls : List ℕ) (result : Option Place) (es' : List (List ℕ)) (ls' : List ℕ)
+    (h : TextRefusal n t (Ok tt)) (m : Left p t es ls result es' ls') (a : 32 ≤ length es) (b : 32 ≤ length ls) where
   abbrev r : Rule
   r = (rule_of n t h).0
 
   small : Fits n r
   small = rule_fits n r (rule_of n t h).2
 
-  held : Held p r made es' ls'
-  held = m.is r (rule_of n t h).1 small.few_rows small.few_columns a b
+  built : (place : Place) × (result ≡ Some place) × Held p r place es' ls'
+  built = m.is r (rule_of n t h).1 small.few_rows small.few_columns a b
 
-  pub made_small : (made.row ≤ 32) × (made.col ≤ 12) × (made.row * made.col ≤ 384)
-  made_small =
-      let d : made.row ≤ 32 = omega (arith, held.row, small.few_rows) in
-      let e : made.col ≤ 12 = omega (arith, held.col, small.few_columns) in
-      (d, e, mul-le-mul {n₁ = made.row} {m₁ = made.col} {n₂ = 32} {m₂ = 12} d e)
+  pub made_some : IsSome result
+  made_some = rw built.1
 
-  shape_is : record { p = p; n = n; d = made.row; e = made.col } ≡ shape_of p n r
-  shape_is = ap₂ (λ (d e : ℕ). record { p = p; n = n; d = d; e = e }) held.row held.col
+  -- The place that is left.
+  module _ (made : Place) (e : result ≡ Some made) where
+    held : Held p r made es' ls'
+    held = let f : built.0 ≡ made = cc (built.1) in rw f at built.2
 
-  pub written : (labels labels' entries entries' : List ℕ) → length labels ≡ 32 → length entries ≡ 384
-      → Filled 0 made.row (place ls') labels labels' made.row → Copied made.row made.col es' entries entries'
-      → Written p n t labels entries (record { p = p; n = n; d = made.row; e = made.col }) labels' entries'
-  written labels labels' entries entries' l k f c =
-      let c' : Copied (length (rule_names r)) (columns r) es' entries entries' = rw (held.row, held.col) at c in
-      let area = mul-le-mul {n₁ = length (rule_names r)} {m₁ = columns r} {n₂ = 32} {m₂ = 12} small.few_rows small.few_columns in (
-        r,
-        (rule_of n t h).1,
-        (rule_of n t h).2,
-        shape_is,
-        labels_written p r made es' ls' held labels labels' (omega (arith, small.few_rows)) f,
-        entries_written p r made es' ls' held entries entries' (omega arith) c',
-      )
+    pub made_small : (made.row ≤ 32) × (made.col ≤ 12) × (made.row * made.col ≤ 384)
+    made_small =
+        let d : made.row ≤ 32 = omega (arith, held.row, small.few_rows) in
+        let e : made.col ≤ 12 = omega (arith, held.col, small.few_columns) in
+        (d, e, mul-le-mul {n₁ = made.row} {m₁ = made.col} {n₂ = 32} {m₂ = 12} d e)
+
+    shape_is : record { p = p; n = n; d = made.row; e = made.col } ≡ shape_of p n r
+    shape_is = ap₂ (λ (d e : ℕ). record { p = p; n = n; d = d; e = e }) held.row held.col
+
+    pub written : (labels labels' entries entries' : List ℕ) → length labels ≡ 32 → length entries ≡ 384
+        → Filled 0 made.row (place ls') labels labels' made.row → Copied made.row made.col es' entries entries'
+        → Written p n t labels entries (record { p = p; n = n; d = made.row; e = made.col }) labels' entries'
+    written labels labels' entries entries' l k f c =
+        let c' : Copied (length (rule_names r)) (columns r) es' entries entries' = rw (held.row, held.col) at c in
+        let area = mul-le-mul {n₁ = length (rule_names r)} {m₁ = columns r} {n₂ = 32} {m₂ = 12} small.few_rows small.few_columns in (
+          r,
+          (rule_of n t h).1,
+          (rule_of n t h).2,
+          shape_is,
+          labels_written p r made es' ls' held labels labels' (omega (arith, small.few_rows)) f,
+          entries_written p r made es' ls' held entries entries' (omega arith) c',
+        )

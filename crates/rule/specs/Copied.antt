@@ -1,7 +1,7 @@
 -- Inner steps of `build`: rows laid one after another in a flat list, and what is written where nothing is refused. No public contract cites
 -- this file.
 -- Assumes nothing.
-use Rattle.std.specs.Prelude.{◌≡◌, List, [], ℕ, ◌+◌, ◌*◌, ◌<◌, ◌≤◌, length, get_or}
+use Rattle.std.specs.Prelude.{◌≡◌, List, [], ℕ, ◌+◌, ◌*◌, ◌<◌, ◌≤◌, length, get_or, Ok}
 use Rattle.scheme.specs.declared.Shape.{Shape}
 use Rattle.scheme.specs.Outcome.{over}
 use Rattle.rules.specs.Tree.{Rule}
@@ -19,5 +19,5 @@ pub record Copied (d e : ℕ) (table : List (List ℕ)) (x₀ x : List ℕ) : Ty
 -- The scheme of the text's rule is written.
 abbrev pub Written : ℕ → ℕ → List ℕ → List ℕ → List ℕ → Shape → List ℕ → List ℕ → Type 0
 Written p n t labels entries s labels' entries' =
-    (r : Rule) × IsRule t r × (rule_refusal n r ≡ 0) × (s ≡ shape_of p n r)
+    (r : Rule) × IsRule t r × (rule_refusal n r ≡ Ok tt) × (s ≡ shape_of p n r)
     × (labels' ≡ over (labels_of (rows p r)) labels) × (entries' ≡ over (entries_of (rows p r)) entries)

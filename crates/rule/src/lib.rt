@@ -2,48 +2,26 @@
 
 #![tactic(auto)]
 
-ghost use Rattle.std.specs.Prelude.{◌≡◌, [], ℕ, ◌+◌, ◌*◌, ◌<◌, ◌≤◌, length, get_or};
-ghost use Rattle.lists.proofs.Fill.{Filled};
-ghost use Rattle.linear.specs.Flat.{place};
+ghost use Rattle.std.specs.Prelude.{◌≡◌, ◌*◌, ◌≤◌, length, Ok};
 ghost use Rattle.reader.specs.Refusal.{TextRefusal};
 ghost use Rattle.rule.specs.Says.{front_refusal_lem, RuleSays};
 ghost use Rattle.rule.specs.Copied.{Copied, Written};
 
-use scheme::{Made, Shape};
+use scheme::{Refusal, Shape};
 
-fn front_refusal(p: u32, n: u32, lplaces: usize, eplaces: usize) -> u32
+fn front_refusal(p: u32, n: u32, lplaces: usize, eplaces: usize) -> Result<(), Refusal>
     ensures { result ≡ front_refusal_lem p n lplaces eplaces }
 {
     if !residue::is_modulus(p) {
-        return 1;
+        return Err(Refusal::Modulus);
     }
     if !scheme::between(1, 16, n as usize) {
-        return 2;
+        return Err(Refusal::Participants);
     }
-    if !scheme::both_same(lplaces, 32, eplaces, 384) {
-        return 5;
+    if lplaces != 32 || eplaces != 384 {
+        return Err(Refusal::Length);
     }
-    0
-}
-
-// A list copied over another, from place `at` on.
-fn copy(from: &[u32], at: usize, to: &mut [u32])
-    requires { at + length from.now ≤ length to.old }
-    ensures { Filled at (length from.now) (place from.now) to.old to.new (length from.now) }
-{
-    let mut k = 0;
-    while k < from.len() {
-        to[at + k] = from[k];
-        k += 1;
-    }
-}
-
-// The first e numbers of a row copied.
-fn copy_row(e: usize, row: [u32; 12], at: usize, to: &mut [u32])
-    requires { (e ≤ 12) × (at + e ≤ length to.old) }
-    ensures { Filled at e (place row) to.old to.new e }
-{
-    copy(&row[0..e], at, to);
+    Ok(())
 }
 
 // The first d rows copied, e numbers each, one after another.
@@ -51,11 +29,8 @@ fn copy_rows(d: usize, e: usize, table: &[[u32; 12]], entries: &mut [u32])
     requires { (d ≤ length table.now) × (d ≤ 32) × (e ≤ 12) × (d * e ≤ length entries.old) }
     ensures { Copied d e table.now entries.old entries.new }
 {
-    let mut k = 0;
-    while k < d {
-        let row = table[k];
-        copy_row(e, row, k * e, entries);
-        k += 1;
+    for (k, row) in table[..d].iter().enumerate() {
+        entries[k * e..k * e + e].copy_from_slice(&row[..e]);
     }
 }
 
@@ -70,48 +45,32 @@ fn write(
     entries: &mut [u32],
 ) -> Shape
     requires le_p { (1 ≤ p) × (32 ≤ length ents.old) × (32 ≤ length labs.old) × (length labels.old ≡ 32) × (length entries.old ≡ 384) }
-    requires text_refusal { TextRefusal n text.now 0 }
+    requires text_refusal { TextRefusal n text.now (Ok tt) }
     ensures { Written p n text.now labels.old entries.old result labels.new entries.new }
 {
-    let made = builder::make(p, text, &mut *ents, &mut *labs);
+    let made = builder::make(p, text, ents, labs).unwrap();
     let d = made.row;
     let e = made.col;
-    copy(&labs[0..d], 0, labels);
+    labels[..d].copy_from_slice(&labs[..d]);
     copy_rows(d, e, ents, entries);
     Shape { p, n, d, e }
 }
 
-// Working rows.
-fn blank() -> [[u32; 12]; 32]
-    ensures { length result ≡ 32 }
-{
-    let z = [0u32; 12];
-    [z; 32]
-}
-
 // Builds the scheme of a written rule. Wrong answers that the contract rules out: a column taken after what is inside a term; a scheme for a
 // text with a ninth open parenthesis; labels written where the call is refused.
-pub fn build(p: u32, n: u32, text: &[u8], labels: &mut [u32], entries: &mut [u32]) -> Made
+#[tactic(auto, unfolding(crate::specs::Says::RuleSays))]
+pub fn build(
+    p: u32,
+    n: u32,
+    text: &[u8],
+    labels: &mut [u32],
+    entries: &mut [u32],
+) -> Result<Shape, Refusal>
     ensures { RuleSays p n text.now labels.old entries.old result labels.new entries.new }
 {
-    let bad = front_refusal(p, n, labels.len(), entries.len());
-    if bad != 0 {
-        return Made::Refused(bad);
-    }
-    let wrong = reader::refusal(n, text);
-    if wrong != 0 {
-        return Made::Refused(wrong);
-    }
-    let mut ents = blank();
+    front_refusal(p, n, labels.len(), entries.len())?;
+    reader::refusal(n, text)?;
+    let mut ents = [[0u32; 12]; 32];
     let mut labs = [0u32; 32];
-    let s = write(
-        p,
-        n,
-        text,
-        &mut ents[0..32],
-        &mut labs[0..32],
-        labels,
-        entries,
-    );
-    Made::Scheme(s)
+    Ok(write(p, n, text, &mut ents, &mut labs, labels, entries))
 }

@@ -1,13 +1,11 @@
 -- The contract of `check` settles its answer: any two that it permits are equal.
 -- Assumes nothing.
-use mathlib.Core.Path.{◌≡◌, sym, ◌∙◌}
-use mathlib.Core.List.{List}
-use Prim.Native.Nat.{ℕ}
+use Rattle.std.proofs.Common.{◌≡◌, sym, ◌∙◌, List, ℕ}
+use Rattle.std.specs.Prelude.{Result}
 use Rattle.scheme.specs.declared.Shape.{Shape}
-use Rattle.scheme.specs.declared.Outcome.{Outcome}
+use Rattle.scheme.specs.declared.Refusal.{Refusal}
 use Rattle.scheme.specs.Refusal.{check_refusal}
-use Rattle.scheme.specs.Outcome.{outcome_at}
 
-pub settled : (s : Shape) (labels entries : List ℕ) (r r' : Outcome) → r ≡ outcome_at (check_refusal s labels entries)
-    → r' ≡ outcome_at (check_refusal s labels entries) → r ≡ r'
+pub settled : (s : Shape) (labels entries : List ℕ) (r r' : Result Unit Refusal) → r ≡ check_refusal s labels entries
+    → r' ≡ check_refusal s labels entries → r ≡ r'
 settled s labels entries r r' x y = x ∙ sym y

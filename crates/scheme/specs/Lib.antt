@@ -5,3 +5,6 @@ pub mod Dealing
 pub mod Threshold
 pub mod Refusal
 pub mod Outcome
+pub mod Numbers
+pub mod Valid
+pub mod Checked

@@ -2,6 +2,7 @@
 -- that gives the code back from every dealing, or the witness that pairs all random lists for one code with all for another, one to one,
 -- with the same cards in each pair. `only_one`: no set has both. `no_row`: a set without rows is closed with the target as witness.
 -- Assumes nothing.
+use Rattle.std.specs.Prelude.{Result, Ok, Err}
 use mathlib.Core.Path.{◌≡◌, refl, sym, ap, ap₂, ◌∙◌, subst}
 use mathlib.Core.Bool.{Bool, false}
 use mathlib.Core.List.{List, ◌∷◌}
@@ -19,13 +20,14 @@ use Rattle.linear.specs.Rows.{target}
 use Rattle.linear.proofs.Flat.{list_at, list_length}
 use Rattle.linear.proofs.Rows.{witness_closed, witness_unique, none_chosen}
 use Rattle.scheme.specs.declared.Shape.{Shape}
+use Rattle.scheme.specs.declared.Refusal.{Refusal}
 use Rattle.scheme.specs.Dealing.{share_of, shares_of, joined}
 use Rattle.scheme.specs.Open as Set
 use Rattle.scheme.specs.Refusal.{ask_refusal_lem, IsScheme}
 use Rattle.scheme.specs.Sets.{of_set}
 use Rattle.scheme.proofs.Refusals.{Valid}
 use Rattle.ask.specs.declared.Verdict.{Verdict}
-use Rattle.ask.specs.declared.Verdict.TheVariants.{Open, Closed, Refused}
+use Rattle.ask.specs.declared.Verdict.TheVariants.{Open, Closed}
 use Rattle.ask.specs.Says.{AskSays}
 use Rattle.ask.proofs.Says.{ask_valid, ask_answers, says_is_open}
 use Rattle.secrecy.specs.Pairing.{RandomList, partner}
@@ -104,31 +106,31 @@ module _ (s : Shape) (labels entries : List ℕ) (set : ℕ) where
 -- vector that gives the code back or the witness that pairs the random lists.
 module _ (s : Shape) (labels entries : List ℕ) (set : ℕ) (h : IsScheme s labels entries) (l : set < 2 ^ s.n) (r z : List ℕ)
     (nr : length r ≡ s.d) (nz : length z ≡ s.e) where
-  not_refused : ask_refusal_lem s labels entries set (length r) (length z) ≡ 0
+  not_refused : ask_refusal_lem s labels entries set (length r) (length z) ≡ Ok tt
   not_refused = ap₂ (λ m n. ask_refusal_lem s labels entries set m n) nr nz ∙ ask_answers s labels entries set h l
 
   sound : Valid s labels entries
   sound = ask_valid s labels entries set (length r) (length z) not_refused
 
   -- What the call hands out.
-  abbrev pub Shown : Verdict → List ℕ → List ℕ → Type 0
-  Shown a r' z' = ((a ≡ Open) × GivesBack s labels entries set (place r')) ⊎ ((a ≡ Closed) × Pairs s labels entries set (place z'))
+  abbrev pub Shown : Result Verdict Refusal → List ℕ → List ℕ → Type 0
+  Shown a r' z' = ((a ≡ Ok Open) × GivesBack s labels entries set (place r')) ⊎ ((a ≡ Ok Closed) × Pairs s labels entries set (place z'))
 
-  pub shown : (a : Verdict) (r' z' : List ℕ) → AskSays s labels entries set r z a r' z' → Shown a r' z'
+  pub shown : (a : Result Verdict Refusal) (r' z' : List ℕ) → AskSays s labels entries set r z a r' z' → Shown a r' z'
   unfolding AskSays
-  shown Open r' z' x = inl (refl, opening_gives_back s labels entries set sound (place r') x.1.0)
-  shown Closed r' z' x = inr (refl, witness_pairs s labels entries set sound (place z') x.1.0)
-  shown (Refused k) r' z' x = absurd (omega (arith, x.0, x.1, not_refused))
+  shown (Ok Open) r' z' x = inl (refl, opening_gives_back s labels entries set sound (place r') x.1.0)
+  shown (Ok Closed) r' z' x = inr (refl, witness_pairs s labels entries set sound (place z') x.1.0)
+  shown (Err k) r' z' x = absurd (cc not_refused)
 
   pub only_one : (v w : ℕ → ℕ) → GivesBack s labels entries set v → Pairs s labels entries set w → ⊥
   only_one = not_both s labels entries set sound
 
   -- "The empty set, and a set that owns no row, are closed with z = the target."
-  pub no_row : ((k : ℕ) → k < s.d → of_set set labels k ≡ false) → (a : Verdict) (r' z' : List ℕ) → AskSays s labels entries set r z a r' z'
-      → (a ≡ Closed) × (z' ≡ list_of s.e target)
+  pub no_row : ((k : ℕ) → k < s.d → of_set set labels k ≡ false) → (a : Result Verdict Refusal) (r' z' : List ℕ) → AskSays s labels entries set r z a r' z'
+      → (a ≡ Ok Closed) × (z' ≡ list_of s.e target)
   unfolding AskSays
-  no_row none Open r' z' x = absurd (no_row_closed s labels entries set sound none (says_is_open s labels entries set r z r' z' x))
-  no_row none Closed r' z' x = (
+  no_row none (Ok Open) r' z' x = absurd (no_row_closed s labels entries set sound none (says_is_open s labels entries set r z r' z' x))
+  no_row none (Ok Closed) r' z' x = (
     refl,
     ext_get_or 0 z' (list_of s.e target) (x.1.1 ∙ sym (list_length s.e target)) (λ j lj.
         witness_unique s.p sound.prime s.d (s.e - 1) (E s labels entries set) (chosen s labels entries set) (place z') target
@@ -138,7 +140,7 @@ module _ (s : Shape) (labels entries : List ℕ) (set : ℕ) (h : IsScheme s lab
         (omega (arith, x.1.1, columns s labels entries set sound))
         ∙ sym (list_at s.e target j (omega (arith, x.1.1)))),
   )
-  no_row none (Refused k) r' z' x = absurd (omega (arith, x.0, x.1, not_refused))
+  no_row none (Err k) r' z' x = absurd (cc not_refused)
 
 -- The empty set names nobody, so it owns no row.
 pub empty_set : (labels : List ℕ) (k : ℕ) → of_set 0 labels k ≡ false

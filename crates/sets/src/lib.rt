@@ -2,20 +2,23 @@
 
 #![tactic(auto)]
 
-ghost use Rattle.std.specs.Prelude.{◌≡◌, cond, ℕ, ◌<◌, ◌≤◌, ◌^◌, length, get_or};
+ghost use Rattle.std.specs.Prelude.{◌≡◌, ℕ, ◌<◌, ◌≤◌, ◌^◌, length, get_or};
 ghost use Rattle.linear.specs.Bits.{bit};
 ghost use Rattle.scheme.specs.Sets.{in_set, of_set};
 ghost use Rattle.scheme.specs.Refusal.{set_refusal_lem, read_below_lem};
 
+use scheme::Refusal;
+
 // Refusal 8 for a set number with a bit from n up.
-pub fn set_refusal(n: u32, set: u32) -> u32
+#[tactic(auto, using(scheme::proofs::Refusals::set_test))]
+pub fn set_refusal(n: u32, set: u32) -> Result<(), Refusal>
     requires { n ≤ 16 }
     ensures { result ≡ set_refusal_lem n set }
 {
-    if set >> n == 0 {
-        return 0;
+    if set >> n != 0 {
+        return Err(Refusal::Outsider);
     }
-    8
+    Ok(())
 }
 
 // Whether participant i is in the set.
@@ -26,15 +29,6 @@ pub fn in_set(set: u32, i: u32) -> bool
     (set >> (i - 1)) % 2 == 1
 }
 
-fn one_if(b: bool) -> u32
-    ensures { result ≡ cond b 1 0 }
-{
-    if b {
-        return 1;
-    }
-    0
-}
-
 // The set's rows as a number: bit k is one where row k is one of them.
 pub fn chosen_rows(set: u32, labels: &[u32]) -> u32
     requires labels_len_bound { length labels.now ≤ 32 }
@@ -42,13 +36,10 @@ pub fn chosen_rows(set: u32, labels: &[u32]) -> u32
     ensures bits { (k : ℕ) → k < length labels.now → bit result k ≡ of_set set labels.now k }
     ensures small { result < 2 ^ length labels.now }
 {
-    let mut chosen: u32 = 0;
-    let mut k = labels.len();
-    while 0 < k {
-        k -= 1;
-        let i = labels[k];
-        let b = in_set(set, i);
-        chosen = chosen * 2 + one_if(b);
+    let mut chosen = 0;
+    for i in labels.iter().rev() {
+        let b = in_set(set, *i);
+        chosen = chosen * 2 + u32::from(b);
     }
     chosen
 }
@@ -59,15 +50,8 @@ pub fn read_below(p: u32, set: u32, labels: &[u32], shares: &[u32]) -> bool
     requires by_index { (k : ℕ) → k < length labels.now → (1 ≤ get_or labels.now k 0) × (get_or labels.now k 0 ≤ 16) }
     ensures { result ≡ read_below_lem p set labels.now shares.now }
 {
-    let mut k = 0;
-    while k < labels.len() {
-        let i = labels[k];
-        if in_set(set, i) {
-            if shares[k] >= p {
-                return false;
-            }
-        }
-        k += 1;
-    }
-    true
+    labels
+        .iter()
+        .zip(shares)
+        .all(|(i, share)| !in_set(set, *i) || *share < p)
 }

@@ -8,14 +8,10 @@
 
 use std::io;
 
-// One byte more than the longest file has: a longer input is of wrong length whatever follows.
-fn places() -> [u8; 1537] {
-    [0u8; 1537]
-}
-
 // A part of the sheet is one write, so that it needs no buffer.
 fn main(rt: HostRuntime) -> io::Result<()> {
-    let mut space = places();
+    // One byte more than the longest file has: a longer input is of wrong length whatever follows.
+    let mut space = [0; 1537];
     let n = input::read_full(&mut rt.reader(), &mut space)?;
     sheet_out::print(&mut io::writer(&rt), &space[..n])
 }

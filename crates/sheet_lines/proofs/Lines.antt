@@ -3,19 +3,17 @@
 use mathlib.Core.Path.{◌≡◌, refl, sym, ap, ◌∙◌}
 use mathlib.Core.Bool.{Bool, true, false}
 use mathlib.Core.List.{List, [], ◌++◌, append_assoc, append-nil}
-use Prim.Native.Nat.{ℕ, zero, suc, ◌+◌, ◌-◌, ◌<◌, ◌≤◌}
+use Prim.Native.Nat.{ℕ, zero, suc, ◌+◌, ◌<◌}
 use native.Mathlib.Nat.{add_assoc}
 use native.Mathlib.Numerals.{add-one}
 use native.Mathlib.Omega.{arith}
-use lib.ListN.{length, get_or, take}
-use lib.Seq.{length-take-le}
+use lib.ListN.{length}
 use Rattle.linear.specs.Bits.{bit}
 use Rattle.rows.specs.declared.Answer.{Answer}
 use Rattle.rows.specs.Answered.{Answered}
 use Rattle.scheme.specs.declared.Shape.{Shape}
 use Rattle.scheme.specs.Sets.{of_set}
 use Rattle.sets.proofs.Asked.{set_handed}
-use Rattle.walk.specs.Answers.{Says}
 use Rattle.digits.specs.Put.{Put, PutSome}
 use Rattle.digits.proofs.Puts.{put_none, put_put}
 use Rattle.sheet_lines.specs.Texts.{set_text}
@@ -33,22 +31,6 @@ module _ (s : Shape) (labels entries : List ℕ) (set : ℕ) where
     pub shows_closed : a.opens ≡ false → Shows s labels entries set false z'
     shows_closed q =
         let h = set_handed s labels entries set r z r' z' a chosen (λ k l. same k (omega (arith, long))) an false q in (h.0, h.1)
-
-  -- Its numbers are residues, 32 at most.
-  pub shown_below : (opens : Bool) (vector : List ℕ) → s.d ≤ 32 → s.e ≤ 12 → Shows s labels entries set opens vector
-      → (length vector ≤ 32) × ((i : ℕ) → i < length vector → get_or vector i 0 < s.p)
-  shown_below true vector d e h = (omega (arith, h.1), λ i l. h.0.below i (omega (arith, h.1)))
-  shown_below false vector d e h = (omega (arith, h.1), λ i l. h.0.below i (omega (arith, h.1)))
-
-  -- What is kept of a set is what its line shows.
-  module _ (kind : ℕ) (row : List ℕ) (long : length row ≡ 32) (kept : Says s labels entries set kind row) where
-    pub shows_kept_open : s.d ≤ 32 → kind ≡ 1 → Shows s labels entries set true (take (s.d - 0) row)
-    shows_kept_open d q = let z : s.d - 0 ≡ s.d = omega arith in
-        rw z (kept.if_open q, length-take-le s.d row (omega (arith, long)))
-
-    pub shows_kept_closed : s.e ≤ 12 → kind ≡ 2 → Shows s labels entries set false (take (s.e - 0) row)
-    shows_kept_closed e q = let z : s.e - 0 ≡ s.e = omega arith in
-        rw z (kept.if_closed q, length-take-le s.e row (omega (arith, long)))
 
   pub line_put : (b : List ℕ) (at : ℕ) (opens : Bool) (vector : List ℕ) {a : List ℕ} {end : ℕ} → Shows s labels entries set opens vector
       → Put b at (set_text s.p set opens vector) end a → PutSome (IsLine s labels entries set) b at end a

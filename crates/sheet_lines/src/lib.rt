@@ -3,15 +3,15 @@
 
 #![tactic(auto)]
 
-ghost use Rattle.std.specs.Prelude.{◌≡◌, Bool, ℕ, ◌<◌, ◌≤◌, ◌+◌, ◌*◌, ◌^◌, length, get_or};
-ghost use Rattle.residue.specs.Prime.{Prime};
+ghost use Rattle.std.specs.Prelude.{ℕ, ◌<◌, ◌≤◌, ◌+◌, ◌*◌, length, get_or};
 ghost use Rattle.walk.specs.Answers.{Says, Kept};
-ghost use Rattle.digits.specs.Digits.{decimal, nearest, whole_text};
+ghost use Rattle.digits.specs.Digits.{decimal};
 ghost use Rattle.digits.specs.Put.{Put, PutSome};
 ghost use Rattle.sheet_lines.specs.Texts.{field, heading_text, vector_text, set_text, refused_text, verdict_word};
 ghost use Rattle.sheet_lines.specs.Lines.{IsLine, IsLines};
 
-use scheme::Shape;
+use scheme::Checked;
+use walk::Answer;
 
 // A number as a field: a space before it.
 fn put_field(out: &mut [u8], at: usize, n: u32) -> usize
@@ -19,21 +19,22 @@ fn put_field(out: &mut [u8], at: usize, n: u32) -> usize
     ensures put { Put out.old at (field (decimal n)) result out.new }
     ensures room { result ≤ at + 11 }
 {
-    let start = digits::put_text(&mut *out, at, b" ");
+    let start = digits::put_text(out, at, b" ");
     digits::put_number(out, start, n)
 }
 
 // The heading from the first place on.
-pub fn put_heading(out: &mut [u8], s: Shape) -> usize
-    requires { (s.d ≤ 32) × (s.e ≤ 12) × (256 ≤ length out.old) }
-    ensures put { Put out.old 0 (heading_text s) result out.new }
+pub fn put_heading(out: &mut [u8], scheme: Checked<'_>) -> usize
+    requires { 256 ≤ length out.old }
+    ensures put { Put out.old 0 (heading_text scheme.entry.shape) result out.new }
     ensures room { result ≤ length out.old }
 {
-    let mut at = digits::put_text(&mut *out, 0, b"SCHEME");
-    at = put_field(&mut *out, at, s.p);
-    at = put_field(&mut *out, at, s.n);
-    at = put_field(&mut *out, at, s.d as u32);
-    at = put_field(&mut *out, at, s.e as u32);
+    let s = scheme.shape;
+    let mut at = digits::put_text(out, 0, b"SCHEME");
+    at = put_field(out, at, s.p);
+    at = put_field(out, at, s.n);
+    at = put_field(out, at, s.d as u32);
+    at = put_field(out, at, s.e as u32);
     digits::put_text(out, at, b"\n")
 }
 
@@ -43,8 +44,8 @@ pub fn put_refused(out: &mut [u8], k: u32) -> usize
     ensures put { Put out.old 0 (refused_text k) result out.new }
     ensures room { result ≤ length out.old }
 {
-    let mut at = digits::put_text(&mut *out, 0, b"REFUSED");
-    at = put_field(&mut *out, at, k);
+    let mut at = digits::put_text(out, 0, b"REFUSED");
+    at = put_field(out, at, k);
     digits::put_text(out, at, b"\n")
 }
 
@@ -56,11 +57,9 @@ fn put_vector(out: &mut [u8], at: usize, p: u32, vector: &[u32]) -> usize
     ensures room { result ≤ at + 224 }
 {
     let mut end = at;
-    let mut i = 0;
-    while i < vector.len() {
-        end = digits::put_text(&mut *out, end, b" ");
-        end = digits::put_residue(&mut *out, end, p, vector[i]);
-        i += 1;
+    for v in vector {
+        end = digits::put_text(out, end, b" ");
+        end = digits::put_residue(out, end, p, *v);
     }
     end
 }
@@ -83,158 +82,90 @@ fn put_line(out: &mut [u8], at: usize, p: u32, set: u32, opens: bool, vector: &[
     ensures put { Put out.old at (set_text p set opens vector.now) result out.new }
     ensures room { result ≤ at + 256 }
 {
-    let mut end = digits::put_number(&mut *out, at, set);
-    end = put_verdict(&mut *out, end, opens);
-    end = put_vector(&mut *out, end, p, vector);
+    let mut end = digits::put_number(out, at, set);
+    end = put_verdict(out, end, opens);
+    end = put_vector(out, end, p, vector);
     digits::put_text(out, end, b"\n")
 }
 
-// The line of a set: asked, and printed. r and z are places for its vector.
-pub fn put_set(
-    out: &mut [u8],
-    at: usize,
-    s: Shape,
-    labels: &[u32],
-    entries: &[u32],
-    set: u32,
-    r: &mut [u32],
-    z: &mut [u32],
-) -> usize
-    requires prime { Prime s.p }
-    requires p_bound { (s.p < 65536) × (s.n ≤ 16) × (s.d ≤ 32) × (1 ≤ s.e) × (s.e ≤ 12) × (length labels.now ≡ s.d)
-        × (length entries.now ≡ s.d * s.e) × (length r.old ≡ s.d) × (length z.old ≡ s.e) × (at + 256 ≤ length out.old) }
-    requires by_index { (k : ℕ) → k < s.d → (1 ≤ get_or labels.now k 0) × (get_or labels.now k 0 ≤ s.n) }
-    requires by_index_2 { (i : ℕ) → get_or entries.now i 0 < s.p }
-    ensures put { PutSome (IsLine s labels.now entries.now set)
+// The line of a set: asked, and printed.
+#[tactic(auto, using(crate::proofs::Lines::shows_open, crate::proofs::Lines::shows_closed, crate::proofs::Lines::line_put))]
+pub fn put_set(out: &mut [u8], at: usize, scheme: Checked<'_>, set: u32) -> usize
+    requires { at + 256 ≤ length out.old }
+    ensures put { PutSome (IsLine scheme.entry.shape scheme.entry.labels.now scheme.entry.entries.now set)
         out.old at result out.new }
     ensures room { result ≤ at + 256 }
 {
-    let chosen = sets::chosen_rows(set, labels);
-    let a = rows::ask(s.p, s.d, s.e, chosen, entries, &mut *r, &mut *z);
-    let opens = a.opens;
-    if opens {
+    let s = scheme.shape;
+    let mut r = [0u32; 32];
+    let mut z = [0u32; 32];
+    let r = &mut r[..s.d];
+    let z = &mut z[..s.e];
+    let chosen = sets::chosen_rows(set, scheme.labels);
+    let a = rows::ask(s.p, s.d, s.e, chosen, scheme.entries, r, z);
+    if a.opens {
         return put_line(out, at, s.p, set, true, r);
     }
     put_line(out, at, s.p, set, false, z)
 }
 
 // The lines of so many sets from `first` on, from the first place on, each set asked by itself. There are 256 bytes for each.
-fn put_each(
-    out: &mut [u8],
-    s: Shape,
-    labels: &[u32],
-    entries: &[u32],
-    first: u32,
-    count: u32,
-    r: &mut [u32],
-    z: &mut [u32],
-) -> usize
-    requires prime { Prime s.p }
-    requires p_bound { (s.p < 65536) × (s.n ≤ 16) × (s.d ≤ 32) × (1 ≤ s.e) × (s.e ≤ 12) × (length labels.now ≡ s.d)
-        × (length entries.now ≡ s.d * s.e) × (length r.old ≡ s.d) × (length z.old ≡ s.e)
-        × (first + count ≤ 65536) × (256 * count ≤ length out.old) }
-    requires by_index { (k : ℕ) → k < s.d → (1 ≤ get_or labels.now k 0) × (get_or labels.now k 0 ≤ s.n) }
-    requires by_index_2 { (i : ℕ) → get_or entries.now i 0 < s.p }
-    ensures put { PutSome (IsLines s labels.now entries.now first count)
+#[tactic(auto, using(crate::proofs::Lines::lines_none, crate::proofs::Lines::lines_end))]
+fn put_each(out: &mut [u8], scheme: Checked<'_>, first: u32, count: u32) -> usize
+    requires { (first + count ≤ 65536) × (256 * count ≤ length out.old) }
+    ensures put { PutSome (IsLines scheme.entry.shape scheme.entry.labels.now scheme.entry.entries.now first count)
         out.old 0 result out.new }
     ensures room { result ≤ 256 * count }
 {
     let mut end = 0;
-    let mut i = 0;
-    while i < count {
-        end = put_set(
-            &mut *out,
-            end,
-            s,
-            labels,
-            entries,
-            first + i,
-            &mut *r,
-            &mut *z,
-        );
-        i += 1;
+    for i in 0..count {
+        end = put_set(out, end, scheme, first + i);
     }
     end
 }
 
-// The line of a set whose answer is kept in a row, of which the kind says what it is; where there is none the set is asked.
+// The line of a set whose answer is kept; where there is none the set is asked.
 fn put_kept(
     out: &mut [u8],
     at: usize,
-    s: Shape,
-    labels: &[u32],
-    entries: &[u32],
+    scheme: Checked<'_>,
     set: u32,
-    kind: u8,
-    row: [u32; 32],
-    r: &mut [u32],
-    z: &mut [u32],
+    kept: &Option<Answer>,
 ) -> usize
-    requires prime { Prime s.p }
-    requires p_bound { (s.p < 65536) × (s.n ≤ 16) × (s.d ≤ 32) × (1 ≤ s.e) × (s.e ≤ 12) × (length labels.now ≡ s.d)
-        × (length entries.now ≡ s.d * s.e) × (length r.old ≡ s.d) × (length z.old ≡ s.e)
-        × (at + 256 ≤ length out.old) }
-    requires by_index { (k : ℕ) → k < s.d → (1 ≤ get_or labels.now k 0) × (get_or labels.now k 0 ≤ s.n) }
-    requires by_index_2 { (i : ℕ) → get_or entries.now i 0 < s.p }
-    requires says { Says s labels.now entries.now set kind row }
-    ensures put { PutSome (IsLine s labels.now entries.now set)
+    requires room { at + 256 ≤ length out.old }
+    requires says { Says scheme.shape scheme.labels.now scheme.entries.now set kept.now }
+    ensures put { PutSome (IsLine scheme.entry.shape scheme.entry.labels.now scheme.entry.entries.now set)
         out.old at result out.new }
     ensures room { result ≤ at + 256 }
 {
-    let d = s.d;
-    let e = s.e;
-    if kind == 1 {
-        return put_line(out, at, s.p, set, true, &row[0..d]);
+    let s = scheme.shape;
+    match kept {
+        Some(Answer::Open(r)) => put_line(out, at, s.p, set, true, &r[..s.d]),
+        Some(Answer::Closed(z)) => put_line(out, at, s.p, set, false, &z[..s.e]),
+        None => put_set(out, at, scheme, set),
     }
-    if kind == 2 {
-        return put_line(out, at, s.p, set, false, &row[0..e]);
-    }
-    put_set(out, at, s, labels, entries, set, r, z)
 }
 
-// The lines of so many sets from `first` on, whose answers are kept.
+// The lines of so many sets from `first` on, whose answers are kept. It differs from `put_each` in the one line that prints: a closure for that
+// line would be longer than the two.
+#[tactic(auto, using(crate::proofs::Lines::lines_none, crate::proofs::Lines::lines_end))]
 fn put_run(
     out: &mut [u8],
     at: usize,
-    s: Shape,
-    labels: &[u32],
-    entries: &[u32],
+    scheme: Checked<'_>,
     first: u32,
     count: u32,
-    kinds: &[u8; 4096],
-    slots: &[[u32; 32]; 4096],
-    r: &mut [u32],
-    z: &mut [u32],
+    slots: &[Option<Answer>; 4096],
 ) -> usize
-    requires prime { Prime s.p }
-    requires p_bound { (s.p < 65536) × (s.n ≤ 16) × (s.d ≤ 32) × (1 ≤ s.e) × (s.e ≤ 12) × (length labels.now ≡ s.d)
-        × (length entries.now ≡ s.d * s.e) × (length r.old ≡ s.d) × (length z.old ≡ s.e)
-        × (first + count ≤ 65536) × (count ≤ 4096) × (at + 256 * count ≤ length out.old) }
-    requires by_index { (k : ℕ) → k < s.d → (1 ≤ get_or labels.now k 0) × (get_or labels.now k 0 ≤ s.n) }
-    requires by_index_2 { (i : ℕ) → get_or entries.now i 0 < s.p }
-    requires kept { Kept s labels.now entries.now first kinds.now slots.now }
-    ensures put { PutSome (IsLines s labels.now entries.now first count)
+    requires count_bound { (first + count ≤ 65536) × (count ≤ 4096) × (at + 256 * count ≤ length out.old) }
+    requires kept { Kept scheme.shape scheme.labels.now scheme.entries.now first slots.now }
+    ensures put { PutSome (IsLines scheme.entry.shape scheme.entry.labels.now scheme.entry.entries.now first count)
         out.old at result out.new }
     ensures room { result ≤ at + 256 * count }
 {
     let mut end = at;
-    let mut i = 0;
-    while i < count {
-        let kind = kinds[i as usize];
-        let row = slots[i as usize];
-        end = put_kept(
-            &mut *out,
-            end,
-            s,
-            labels,
-            entries,
-            first + i,
-            kind,
-            row,
-            &mut *r,
-            &mut *z,
-        );
-        i += 1;
+    for i in 0..count {
+        end = put_kept(out, end, scheme, first + i, &slots[i as usize]);
     }
     end
 }
@@ -243,82 +174,40 @@ fn put_run(
 fn run_length(left: u32) -> u32
     ensures { (result ≤ 4096) × (result ≤ left) × (0 < left → 0 < result) }
 {
-    if left < 4096 {
-        return left;
-    }
-    4096
+    left.min(4096)
 }
 
 // The lines of so many sets from `first` on, from the first place on, asked in runs of up to 4,096.
-fn put_runs(
-    out: &mut [u8],
-    s: Shape,
-    labels: &[u32],
-    entries: &[u32],
-    first: u32,
-    count: u32,
-    r: &mut [u32],
-    z: &mut [u32],
-) -> usize
-    requires prime { Prime s.p }
-    requires p_bound { (s.p < 65536) × (s.n ≤ 16) × (s.d ≤ 32) × (1 ≤ s.e) × (s.e ≤ 12) × (length labels.now ≡ s.d)
-        × (length entries.now ≡ s.d * s.e) × (length r.old ≡ s.d) × (length z.old ≡ s.e)
-        × (first + count ≤ 65536) × (256 * count ≤ length out.old) }
-    requires by_index { (k : ℕ) → k < s.d → (1 ≤ get_or labels.now k 0) × (get_or labels.now k 0 ≤ s.n) }
-    requires by_index_2 { (i : ℕ) → get_or entries.now i 0 < s.p }
-    ensures put { PutSome (IsLines s labels.now entries.now first count)
+#[tactic(auto, using(crate::proofs::Lines::lines_none, crate::proofs::Lines::lines_end))]
+fn put_runs(out: &mut [u8], scheme: Checked<'_>, first: u32, count: u32) -> usize
+    requires { (first + count ≤ 65536) × (256 * count ≤ length out.old) }
+    ensures put { PutSome (IsLines scheme.entry.shape scheme.entry.labels.now scheme.entry.entries.now first count)
         out.old 0 result out.new }
     ensures room { result ≤ 256 * count }
 {
-    let mut kinds = walk::no_kinds();
-    let mut slots = walk::no_rows();
+    let mut slots = [None; 4096];
     let mut end = 0;
     let mut i = 0;
+    // A `while`, since the step is a run's length: `step_by` would have to work the same length out and is no plainer.
     while i < count {
         let some = run_length(count - i);
-        walk::fill(s, labels, entries, first + i, some, &mut kinds, &mut slots);
-        end = put_run(
-            &mut *out,
-            end,
-            s,
-            labels,
-            entries,
-            first + i,
-            some,
-            &kinds,
-            &slots,
-            &mut *r,
-            &mut *z,
-        );
+        walk::fill(scheme, first + i, some, &mut slots);
+        end = put_run(out, end, scheme, first + i, some, &slots);
         i += some;
     }
     end
 }
 
 // The lines of so many sets from `first` on, from the first place on. There are 256 bytes for each.
-pub fn put_lines(
-    out: &mut [u8],
-    s: Shape,
-    labels: &[u32],
-    entries: &[u32],
-    first: u32,
-    count: u32,
-    r: &mut [u32],
-    z: &mut [u32],
-) -> usize
-    requires prime { Prime s.p }
-    requires p_bound { (s.p < 65536) × (s.n ≤ 16) × (s.d ≤ 32) × (1 ≤ s.e) × (s.e ≤ 12) × (length labels.now ≡ s.d)
-        × (length entries.now ≡ s.d * s.e) × (length r.old ≡ s.d) × (length z.old ≡ s.e)
-        × (first + count ≤ 65536) × (256 * count ≤ length out.old) }
-    requires by_index { (k : ℕ) → k < s.d → (1 ≤ get_or labels.now k 0) × (get_or labels.now k 0 ≤ s.n) }
-    requires by_index_2 { (i : ℕ) → get_or entries.now i 0 < s.p }
-    ensures put { PutSome (IsLines s labels.now entries.now first count)
+pub fn put_lines(out: &mut [u8], scheme: Checked<'_>, first: u32, count: u32) -> usize
+    requires { (first + count ≤ 65536) × (256 * count ≤ length out.old) }
+    ensures put { PutSome (IsLines scheme.entry.shape scheme.entry.labels.now scheme.entry.entries.now first count)
         out.old 0 result out.new }
     ensures room { result ≤ length out.old }
 {
     // A few sets have too little in common to be worth places for their answers.
     if count < 16 {
-        return put_each(out, s, labels, entries, first, count, r, z);
+        return put_each(out, scheme, first, count);
     }
-    put_runs(out, s, labels, entries, first, count, r, z)
+    put_runs(out, scheme, first, count)
 }

@@ -5,7 +5,6 @@ use mathlib.Core.Bool.{true}
 use mathlib.Core.List.{List, [], ◌∷◌, ◌++◌}
 use Prim.Native.Nat.{ℕ}
 use Rattle.scheme.specs.declared.Shape.{Shape}
-use Rattle.scheme.specs.Tests.{each}
 use Rattle.scheme.specs.Refusal.{IsScheme, refusal_of, numbers_refusal_lem, content_refusal_lem}
 use Rattle.scheme.proofs.Refusals.{Valid, valid}
 use Rattle.format.specs.Format.{file_of}
@@ -27,7 +26,7 @@ abbrev pub entries : List ℕ
 entries = 0 ∷ 1 ∷ 1 ∷ 16 ∷ []
 
 scheme : IsScheme shape labels entries
-unfolding refusal_of numbers_refusal_lem content_refusal_lem each Rattle.residue.specs.Moduli.is_in
+unfolding refusal_of numbers_refusal_lem content_refusal_lem Rattle.residue.specs.Moduli.is_in
 scheme = refl
 
 given : Valid shape labels entries

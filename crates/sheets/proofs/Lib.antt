@@ -3,5 +3,4 @@ pub mod Settled
 pub mod Parts
 pub mod Cases
 pub mod Prints
-pub mod Counts
 pub mod FileRead

@@ -1,5 +1,6 @@
 -- A file has one sheet, and its parts, printed one after another until the first empty one, are its sheet.
 -- Assumes nothing.
+use Rattle.std.specs.Prelude.{Result, Ok, Err}
 use mathlib.Core.Path.{◌≡◌, refl, sym, ap, ap₂, ◌∙◌, subst, subst⁻¹}
 use mathlib.Core.List.{List, [], ◌++◌, append_assoc, append-nil}
 use mathlib.Core.Logic.{⊎_elim}
@@ -10,13 +11,14 @@ use lib.Seq.{take-append_seam}
 use lib.Pow.{pow_mono}
 use Rattle.algebra.proofs.Cases.{lt_or_ge}
 use Rattle.scheme.specs.declared.Shape.{Shape}
+use Rattle.scheme.specs.declared.Refusal.{Refusal}
+use Rattle.scheme.specs.Numbers.{number_lem}
 use Rattle.sheet_lines.specs.Texts.{heading_text, refused_text}
 use Rattle.sheet_lines.specs.Lines.{IsLines}
 use Rattle.sheet_lines.proofs.Settled.{lines_settled, lines_join, lines_not_empty, heading_not_empty, refused_not_empty}
 use Rattle.sheet_lines.proofs.Computed.{lines_of, lines_are}
 use Rattle.sheets.specs.Sheet.{file_refusal, shape_of, labels_of, entries_of, SchemeSheet, SheetAt, IsSheet}
 use Rattle.sheets.specs.Sheet.{SchemePart, RefusedPart, PartAt, IsPart, together}
-use Rattle.sheets.specs.declared.Written.TheVariants.{Bytes}
 use Rattle.sheets.specs.Says.{PrintSays, PartSays}
 use Rattle.sheets.proofs.Files.{file_valid}
 
@@ -24,35 +26,31 @@ pub sheet_settled : (file t u : List ℕ) → IsSheet file t → IsSheet file u 
 unfolding IsSheet
 sheet_settled file t u = go (file_refusal file) refl
   where
-    go : (r : ℕ) → file_refusal file ≡ r → SheetAt r file t → SheetAt r file u → t ≡ u
-    go zero q x y =
+    go : (r : Result Unit Refusal) → file_refusal file ≡ r → SheetAt r file t → SheetAt r file u → t ≡ u
+    go (Ok o) q x y =
         x.2 ∙ ap (λ l. heading_text (shape_of file) ++ l)
         (lines_settled (shape_of file) (labels_of file) (entries_of file) (file_valid file q) 0 (2 ^ (shape_of file).n) x.0 y.0
         x.1 y.1)
         ∙ sym y.2
-    go (suc r) q x y = x ∙ sym y
+    go (Err r) q x y = x ∙ sym y
 
 pub sheet_exists : (file : List ℕ) → (text : List ℕ) × IsSheet file text
 unfolding IsSheet
 sheet_exists file = go (file_refusal file) refl
   where
-    go : (r : ℕ) → file_refusal file ≡ r → (text : List ℕ) × SheetAt r file text
-    go zero q =
+    go : (r : Result Unit Refusal) → file_refusal file ≡ r → (text : List ℕ) × SheetAt r file text
+    go (Ok o) q =
         let v = file_valid file q in
         let lines = lines_of (shape_of file) (labels_of file) (entries_of file) v 0 (2 ^ (shape_of file).n) in (
           heading_text (shape_of file) ++ lines,
           (lines, lines_are (shape_of file) (labels_of file) (entries_of file) v 0 (2 ^ (shape_of file).n), refl),
         )
-    go (suc r) q = (refused_text (suc r), refl)
+    go (Err r) q = (refused_text (number_lem r), refl)
 
 -- The sheet of a refused file is the line of its refusal.
-pub starts_with_refused : (file t : List ℕ) → IsSheet file t → 0 < file_refusal file → t ≡ refused_text (file_refusal file)
+pub starts_with_refused : (file t : List ℕ) → IsSheet file t → (k : Refusal) → file_refusal file ≡ Err k → t ≡ refused_text (number_lem k)
 unfolding IsSheet
-starts_with_refused file t = go (file_refusal file)
-  where
-    go : (r : ℕ) → SheetAt r file t → 0 < r → t ≡ refused_text r
-    go zero x l = absurd (omega arith)
-    go (suc r) x l = x
+starts_with_refused file t x k e = subst (λ (r : Result Unit Refusal). SheetAt r file t) e x
 
 module _ (s : Shape) (labels entries : List ℕ) where
   -- Lines up to place a of N, and then m lines, or those that are left, or none.
@@ -118,10 +116,10 @@ refused_parts r parts (suc j) h = ap₂ ◌++◌ (refused_parts r parts j (λ i 
 
 -- Who prints parts 0, 1, 2, .. until the first empty one has printed the sheet.
 module _ (m : ℕ) (l : 0 < m) (file : List ℕ) (parts : ℕ → List ℕ) where
-  sheet_at : (r k : ℕ) → ((i : ℕ) → i ≤ k → PartAt r m file i (parts i)) → parts k ≡ [] → SheetAt r file (together parts k)
-  sheet_at zero k h e = parts_sheet (shape_of file) (labels_of file) (entries_of file) m l parts k h e
-  sheet_at (suc r) zero h e = absurd (omega (arith, refused_not_empty (suc r), ap length (h 0 (omega arith)), ap length e))
-  sheet_at (suc r) (suc j) h e = refused_parts (suc r) parts j (λ i u. h i (omega arith))
+  sheet_at : (r : Result Unit Refusal) (k : ℕ) → ((i : ℕ) → i ≤ k → PartAt r m file i (parts i)) → parts k ≡ [] → SheetAt r file (together parts k)
+  sheet_at (Ok o) k h e = parts_sheet (shape_of file) (labels_of file) (entries_of file) m l parts k h e
+  sheet_at (Err r) zero h e = absurd (omega (arith, refused_not_empty (number_lem r), ap length (h 0 (omega arith)), ap length e))
+  sheet_at (Err r) (suc j) h e = refused_parts (number_lem r) parts j (λ i u. h i (omega arith))
 
   pub first_parts_make_sheet : (k : ℕ) → ((i : ℕ) → i ≤ k → IsPart m file i (parts i)) → parts k ≡ [] → IsSheet file (together parts k)
   unfolding IsPart IsSheet
@@ -136,19 +134,19 @@ pub parts_end : (m : ℕ) (file : List ℕ) (k : ℕ) (text : List ℕ) → 6553
 unfolding IsPart
 parts_end m file k text l = go (file_refusal file) refl
   where
-    go : (r : ℕ) → file_refusal file ≡ r → PartAt r m file (suc k) text → text ≡ []
-    go zero q x =
+    go : (r : Result Unit Refusal) → file_refusal file ≡ r → PartAt r m file (suc k) text → text ≡ []
+    go (Ok o) q x =
         let few : 2 ^ (shape_of file).n ≤ 65536 = pow_mono {i = (shape_of file).n} {j = 16} (file_valid file q).n_high in
         let none : min m (2 ^ (shape_of file).n - m * k) ≡ 0 = omega arith in
         subst (λ (i : ℕ). IsLines (shape_of file) (labels_of file) (entries_of file) (m * k) i text) none x
-    go (suc r) q x = x
+    go (Err r) q x = x
 
 -- Part 65,537 is empty, however few lines a part has.
 pub last_part_empty : (m : ℕ) → 0 < m → (file text : List ℕ) → IsPart m file 65537 text → text ≡ []
 last_part_empty m l file text = parts_end m file 65536 text (omega arith)
 
 -- What a call says that it wrote is the part.
-pub part_taken : (file : List ℕ) (k : ℕ) (out : List ℕ) (size : ℕ) (out' : List ℕ) → PartSays file k out (Bytes size) out'
+pub part_taken : (file : List ℕ) (k : ℕ) (out : List ℕ) (size : ℕ) (out' : List ℕ) → PartSays file k out (Ok size) out'
     → IsPart (length out / 256) file k (take size out')
 unfolding PrintSays
 part_taken file k out size out' x =
@@ -159,7 +157,7 @@ part_taken file k out size out' x =
 -- From the calls to the sheet: who calls `part` for 0, 1, .. with lists of so many places until a call writes nothing, and keeps what each
 -- call says that it wrote, one after another, has the sheet.
 pub printed_sheet : (file : List ℕ) (places : ℕ) → 256 ≤ places → (out out' : ℕ → List ℕ) (size : ℕ → ℕ) (k : ℕ)
-    → ((j : ℕ) → j ≤ k → (length (out j) ≡ places) × PartSays file j (out j) (Bytes (size j)) (out' j))
+    → ((j : ℕ) → j ≤ k → (length (out j) ≡ places) × PartSays file j (out j) (Ok (size j)) (out' j))
     → size k ≡ 0 → IsSheet file (together (λ j. take (size j) (out' j)) k)
 printed_sheet file places l out out' size k calls e =
     first_parts_make_sheet (places / 256) (omega arith) file (λ j. take (size j) (out' j)) k

@@ -1,13 +1,15 @@
 -- Document 01, "The sheet": the sheet of a file, and its parts.
 -- Assumes nothing.
-use Rattle.std.specs.Prelude.{◌≡◌, List, [], ◌++◌, ℕ, zero, suc, ◌*◌, ◌-◌, ◌^◌, min}
+use Rattle.std.specs.Prelude.{◌≡◌, List, [], ◌++◌, ℕ, zero, suc, Result, Ok, Err, ◌*◌, ◌-◌, ◌^◌, min}
 use Rattle.scheme.specs.declared.Shape.{Shape}
+use Rattle.scheme.specs.declared.Refusal.{Refusal}
+use Rattle.scheme.specs.Numbers.{number_lem}
 use Rattle.format.specs.Reading.{shape_at, labels_at, entries_at, read_refusal1}
 use Rattle.sheet_lines.specs.Texts.{heading_text, refused_text}
 use Rattle.sheet_lines.specs.Lines.{IsLines}
 
--- Why a file is refused; 0 is not. The lists that it is read into have their lengths.
-abbrev pub file_refusal : List ℕ → ℕ
+-- Why a file is refused. The lists that it is read into have their lengths.
+abbrev pub file_refusal : List ℕ → Result Unit Refusal
 file_refusal file = read_refusal1 file 32 384
 
 -- The scheme that the file says: its numbers, labels and entries.
@@ -26,9 +28,9 @@ SchemeSheet s labels entries text =
     (lines : List ℕ) × IsLines s labels entries 0 (2 ^ s.n) lines × (text ≡ heading_text s ++ lines)
 
 -- "A refused file gives only a line that begins with the word REFUSED".
-abbrev pub SheetAt : ℕ → List ℕ → List ℕ → Type 0
-SheetAt zero file text = SchemeSheet (shape_of file) (labels_of file) (entries_of file) text
-SheetAt (suc k) file text = text ≡ refused_text (suc k)
+abbrev pub SheetAt : Result Unit Refusal → List ℕ → List ℕ → Type 0
+SheetAt (Ok u) file text = SchemeSheet (shape_of file) (labels_of file) (entries_of file) text
+SheetAt (Err k) file text = text ≡ refused_text (number_lem k)
 
 -- The sheet of a file.
 unfoldable pub IsSheet : List ℕ → List ℕ → Type 0
@@ -44,9 +46,9 @@ abbrev pub RefusedPart : ℕ → ℕ → List ℕ → Type 0
 RefusedPart r zero text = text ≡ refused_text r
 RefusedPart r (suc k) text = text ≡ []
 
-abbrev pub PartAt : ℕ → ℕ → List ℕ → ℕ → List ℕ → Type 0
-PartAt zero m file k text = SchemePart m (shape_of file) (labels_of file) (entries_of file) k text
-PartAt (suc r) m file k text = RefusedPart (suc r) k text
+abbrev pub PartAt : Result Unit Refusal → ℕ → List ℕ → ℕ → List ℕ → Type 0
+PartAt (Ok u) m file k text = SchemePart m (shape_of file) (labels_of file) (entries_of file) k text
+PartAt (Err r) m file k text = RefusedPart (number_lem r) k text
 
 unfoldable pub IsPart : ℕ → List ℕ → ℕ → List ℕ → Type 0
 IsPart m file k text = PartAt (file_refusal file) m file k text

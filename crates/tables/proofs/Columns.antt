@@ -1,6 +1,6 @@
 -- The columns of a table as the rows of another: what a loop over the columns has done.
 -- Assumes nothing.
-use mathlib.Core.Path.{◌≡◌, refl, ◌∙◌}
+use mathlib.Core.Path.{◌≡◌, ◌∙◌}
 use mathlib.Core.List.{List}
 use Prim.Native.Nat.{ℕ, ◌+◌, ◌*◌, ◌<◌, ◌≤◌}
 use native.Mathlib.Numerals.{add-one}
@@ -9,7 +9,6 @@ use lib.ListN.{length}
 use Rattle.algebra.proofs.Cases.{below_suc}
 use Rattle.lists.proofs.Store.{row_fits}
 use Rattle.linear.specs.Flat.{place, entry}
-use Rattle.tables.specs.Turned.{Turned}
 
 -- The first j columns are in their places.
 pub record Turning (d e : ℕ) (table a₀ a : List ℕ) (j : ℕ) : Type 0 where
@@ -18,9 +17,6 @@ pub record Turning (d e : ℕ) (table a₀ a : List ℕ) (j : ℕ) : Type 0 wher
   pub done : (i : ℕ) → i < j → (k : ℕ) → k < d → entry d a i k ≡ entry e table k i
 
 module _ (d e : ℕ) (table a₀ : List ℕ) where
-  pub turning_start : Turning d e table a₀ a₀ 0
-  turning_start = record { upto = omega arith; size = refl; done = λ i l. absurd (omega arith) }
-
   pub turning_turn : (a b : List ℕ) (j : ℕ) → Turning d e table a₀ a j → j < e → length b ≡ length a
       → ((k : ℕ) → k < d → entry d b j k ≡ entry e table k j) → ((i : ℕ) → i < j * d → place b i ≡ place a i)
       → Turning d e table a₀ b (j + 1)
@@ -31,6 +27,3 @@ module _ (d e : ℕ) (table a₀ : List ℕ) where
         (λ i li k lk. old (i * d + k) (omega (arith, row_fits i j d li)) ∙ h.done i li k lk)
         here);
   }
-
-  pub turning_end : (a : List ℕ) (j : ℕ) → Turning d e table a₀ a j → e ≤ j → Turned d e table a
-  turning_end a j h l = record { at = λ i k li lk. h.done i (omega arith) k lk }

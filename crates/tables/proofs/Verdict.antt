@@ -1,24 +1,21 @@
 -- All rows of a table: what the one question for its columns says, and what it says for its rows.
 -- Assumes nothing.
-use mathlib.Core.Path.{◌≡◌, refl, ap, subst, subst⁻¹, ◌∙◌}
-use mathlib.Core.Bool.{Bool, true, false}
+use mathlib.Core.Path.{◌≡◌, refl, ap, subst, ◌∙◌}
+use mathlib.Core.Bool.{Bool}
 use mathlib.Core.List.{List, ◌∷◌}
 use mathlib.Core.Logic.{⊎_elim}
 use Prim.Native.Nat.{ℕ, zero, suc, ◌+◌, ◌-◌, ◌*◌, ◌%◌, ◌<◌, ◌≤◌}
 use native.Mathlib.Nat.{not-suc-le-zero}
 use native.Mathlib.Omega.{arith}
-use lib.ListN.{length, take, length-take}
 use Rattle.residue.specs.Prime.{Prime}
 use Rattle.linear.specs.Flat.{place, entry}
 use Rattle.linear.specs.Question.{Coefficients, NoCombination}
-use Rattle.linear.specs.Rows.{target, columns_of, Open, OpeningVector, Witness}
+use Rattle.linear.specs.Rows.{columns_of, Open}
 use Rattle.linear.specs.Product.{every}
-use Rattle.linear.proofs.Masked.{rows_of, opening_unmask}
 use Rattle.linear.proofs.Numbers.{never_both, coefficients_same, none_same}
 use Rattle.linear.proofs.Rows.{minus_first, coefficients_witness, witness_coefficients, opening_open, open_or_closed}
-use Rattle.combination.specs.Found.{Found}
 use Rattle.tables.specs.Turned.{Turned}
-use Rattle.tables.specs.Steps.{Negated, Aimed, OthersGive, Closing}
+use Rattle.tables.specs.Steps.{Negated, OthersGive, Closing}
 
 -- The columns, the first of them negated, are those of the question whose answer is the witness. f is their number after the first.
 module _ (p d f : ℕ) (table turned columns : List ℕ) (t : Turned d (suc f) table turned) (n : Negated p d turned columns) where
@@ -62,22 +59,3 @@ closing p H d (suc f) l table turned columns r c t n o = record {
       (column_coefficients p d f table turned columns t n (place c) (o.yes q));
   no = λ q. unwitnessed p d f table turned columns t n H (column_none p d f table turned columns t n (o.no q));
 }
-
--- Of rows that are open the target is a combination, so the one question for them says yes, with the opening vector.
-pub opened : (p d e : ℕ) (table goal : List ℕ) (found : Bool) (r : List ℕ) → Open p d e (entry e table) every → Aimed e goal
-    → Found p d e table goal found r → OpeningVector p d e (entry e table) every (place r)
-opened p d e table goal true r o a f = opening_unmask p e (entry e table) every d (place r)
-    (coefficients_same p e d (entry e table) (rows_of (entry e table) every) (λ k j lk lj. refl) (place goal) target (place r) (place r)
-    a.at (λ k l. refl) (f.yes refl))
-opened p d e table goal false r o a f = absurd
-    ((none_same p e d (entry e table) (entry e table) (λ k j lk lj. refl) (place goal) target a.at (f.no refl)).none (o.0, o.2))
-
--- The witness: 1, then the coefficients, which are the front of c.
-pub witnessed : (p d e : ℕ) (table c z : List ℕ) (closed : Bool) → 1 ≤ e → length c ≡ e → closed ≡ true
-    → Closing p d e table closed (take (e - 1) c) → z ≡ 1 ∷ take (e - 1 - 0) c
-    → Witness p d e (entry e table) every (place z) × (length z ≡ e)
-witnessed p d e table c z closed l n w o q =
-    let front : e - 1 - 0 ≡ e - 1 = omega arith in
-    subst⁻¹ (λ (z : List ℕ). Witness p d e (entry e table) every (place z) × (length z ≡ e))
-    (q ∙ ap (λ (k : ℕ). 1 ∷ take k c) front)
-    (o.yes w, omega (arith, length-take (e - 1) c))

@@ -19,10 +19,8 @@ fn column(d: usize, e: usize, j: usize, table: &[u32], a: &mut [u32])
     ensures before { (i : ℕ) → i < j * d → place a.new i ≡ place a.old i }
 {
     let at = j * d;
-    let mut k = 0;
-    while k < d {
-        a[at + k] = table[k * e + j];
-        k += 1;
+    for (k, x) in a[at..at + d].iter_mut().enumerate() {
+        *x = table[k * e + j];
     }
 }
 
@@ -32,10 +30,8 @@ pub fn turn(d: usize, e: usize, table: &[u32], a: &mut [u32])
     ensures same { length a.new ≡ length a.old }
     ensures turned { Turned d e table.now a.new }
 {
-    let mut j = 0;
-    while j < e {
-        column(d, e, j, table, &mut *a);
-        j += 1;
+    for j in 0..e {
+        column(d, e, j, table, a);
     }
 }
 
@@ -44,10 +40,8 @@ fn negate(p: u32, n: usize, x: &mut [u32])
     requires { (0 < p) × (n ≤ length x.old) }
     ensures { Negated p n x.old x.new }
 {
-    let mut i = 0;
-    while i < n {
-        x[i] = p - x[i] % p;
-        i += 1;
+    for y in x[..n].iter_mut() {
+        *y = p - *y % p;
     }
 }
 
@@ -56,11 +50,7 @@ fn aim(n: usize, x: &mut [u32])
     requires { (1 ≤ n) × (length x.old ≡ n) }
     ensures { Aimed n x.new }
 {
-    let mut j = 0;
-    while j < n {
-        x[j] = 0;
-        j += 1;
-    }
+    x.fill(0);
     x[0] = 1;
 }
 
@@ -69,16 +59,13 @@ fn one_before(c: &[u32], z: &mut [u32])
     requires { length z.old ≡ 1 + length c.now }
     ensures { z.new ≡ 1 ∷ c.now }
 {
-    let mut j = 0;
-    while j < c.len() {
-        z[1 + j] = c[j];
-        j += 1;
-    }
     z[0] = 1;
+    z[1..].copy_from_slice(c);
 }
 
 // Whether the first of e rows of d numbers is a combination of the others; where it is, `c` begins with its coefficients.
-// `duals`, `t`, `u` and the last place of `c` are working space.
+// `duals`, `t`, `u` and the last place of `c` are working space. What it shares with `weigh` is the cutting of lists alone: one function for
+// both would be longer than the two.
 fn others_give(
     p: u32,
     d: usize,
@@ -96,18 +83,17 @@ fn others_give(
     ensures sizes { (length duals.new ≡ length duals.old) × (length t.new ≡ length t.old)
         × (length u.new ≡ length u.old) × (length c.new ≡ length c.old) }
 {
-    let n = e * d;
     let m = e - 1;
     combination::find(
         p,
         m,
         d,
-        &rows[d..n],
-        &rows[0..d],
+        &rows[d..],
+        &rows[..d],
         duals,
-        &mut t[0..d],
-        &mut u[0..d],
-        &mut c[0..m],
+        &mut t[..d],
+        &mut u[..d],
+        &mut c[..m],
     )
 }
 
@@ -159,7 +145,7 @@ fn weigh(
         × (length u.new ≡ length u.old) × (length r.new ≡ length r.old) }
 {
     aim(e, goal);
-    combination::find(p, d, e, table, goal, duals, &mut t[0..e], &mut u[0..e], r);
+    combination::find(p, d, e, table, goal, duals, &mut t[..e], &mut u[..e], r);
 }
 
 // Whether the rows of a table of d rows of e numbers are open: then `r` becomes the vector; else `z` becomes the witness, and the other
@@ -189,8 +175,7 @@ pub fn ask(
         × (length u.new ≡ length u.old) × (length c.new ≡ length c.old) }
 {
     if closes(p, d, e, table, columns, duals, t, u, c) {
-        let m = e - 1;
-        one_before(&c[0..m], z);
+        one_before(&c[..e - 1], z);
         return false;
     }
     weigh(p, d, e, table, c, duals, t, u, r);

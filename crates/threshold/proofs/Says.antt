@@ -1,45 +1,46 @@
 -- What `threshold` answers, from what its search finds; and that the contract settles the answer.
 -- Assumes nothing.
+use Rattle.std.specs.Prelude.{Option, Some, None, Result, Ok, Err}
 use mathlib.Core.Path.{◌≡◌, refl, sym, ap, ◌∙◌}
 use mathlib.Core.Bool.{true}
 use mathlib.Core.List.{List}
 use mathlib.Core.Logic.{⊎_elim}
-use Prim.Native.Nat.{ℕ, ◌<◌, ◌≤◌, ◌^◌}
-use native.Mathlib.Omega.{arith}
+use Prim.Native.Nat.{ℕ, ◌<◌}
 use borrow.Author.Tests.{lt-ltb}
 use Rattle.algebra.proofs.Cases.{same?, apart}
 use Rattle.scheme.specs.declared.Shape.{Shape}
+use Rattle.scheme.specs.declared.Checked.{Checked}
+use Rattle.scheme.specs.Checked.{IsOf}
+use Rattle.scheme.specs.declared.Refusal.{Refusal}
+use Rattle.scheme.specs.declared.Refusal.TheVariants as R
 use Rattle.scheme.specs.Tests.{unless}
 use Rattle.scheme.specs.Refusal.{refusal_of, threshold_refusal_lem, IsScheme}
-use Rattle.scheme.specs.Threshold.{FirstBreaking}
-use Rattle.scheme.proofs.Refusals.{refusal_more, or_else_zero, Valid, valid}
-use Rattle.threshold.specs.declared.Verdict.{Verdict}
-use Rattle.threshold.specs.declared.Verdict.TheVariants.{Yes, No, Refused}
+use Rattle.scheme.specs.Threshold.{IsThreshold, FirstBreaking}
+use Rattle.scheme.proofs.Refusals.{refusal_more, or_else_ok, Valid, valid, of_checked}
+use Rattle.scheme.proofs.Outcomes.{not_both, one_refusal}
 use Rattle.threshold.specs.Says.{ThresholdSays}
-use Rattle.threshold.specs.First.{FirstOrEnd}
+use Rattle.threshold.specs.First.{FirstOrNone}
 
 module _ (s : Shape) (labels entries : List ℕ) (t : ℕ) where
   -- A call that is not refused is on a valid scheme.
-  pub threshold_valid : threshold_refusal_lem s labels entries t ≡ 0 → Valid s labels entries
-  threshold_valid h = valid s labels entries _ (or_else_zero _ _ (sym (refusal_more s labels entries _ _) ∙ h)).0
+  pub threshold_valid : threshold_refusal_lem s labels entries t ≡ Ok tt → Valid s labels entries
+  threshold_valid h = valid s labels entries _ (or_else_ok _ _ (sym (refusal_more s labels entries _ _) ∙ h)).0
 
-  pub says_refused : (k : ℕ) → k ≡ threshold_refusal_lem s labels entries t → (k ≡ 0 → ⊥) → ThresholdSays s labels entries t (Refused k)
+  pub says_refused : (a : Result (Option ℕ) Refusal) (k : Refusal) → threshold_refusal_lem s labels entries t ≡ Err k → a ≡ Err k
+      → ThresholdSays s labels entries t a
   unfolding ThresholdSays
-  says_refused k e h = (sym e, omega arith)
+  says_refused a k h e = rw e h
 
-  pub says_no : (set : ℕ) → threshold_refusal_lem s labels entries t ≡ 0 → FirstOrEnd s labels entries t set → set < 2 ^ s.n
-      → ThresholdSays s labels entries t (No set)
-  unfolding ThresholdSays
-  says_no set h f l = (h, record { inside = l; breaks = f.here l; before = f.before })
-
-  pub says_yes : (set : ℕ) → threshold_refusal_lem s labels entries t ≡ 0 → FirstOrEnd s labels entries t set → 2 ^ s.n ≤ set
-      → ThresholdSays s labels entries t Yes
-  unfolding ThresholdSays
-  says_yes set h f l = (h, λ lower u. f.before lower (omega arith))
+  -- What the search finds in the checked scheme.
+  pub says_first : (c : Checked) → IsOf s labels entries c → threshold_refusal_lem s labels entries t ≡ Ok tt → (first : Option ℕ)
+      → FirstOrNone c.shape c.labels.now c.entries.now t first → ThresholdSays s labels entries t (Ok first)
+  unfolding ThresholdSays FirstOrNone
+  says_first c is h None f = (h, of_checked (λ s labels entries. IsThreshold s labels entries t) c is f)
+  says_first c is h (Some set) f = (h, of_checked (λ s labels entries. FirstBreaking s labels entries t set) c is f)
 
   -- On a scheme, with t below n, the call is not refused.
-  pub threshold_answers : IsScheme s labels entries → t < s.n → threshold_refusal_lem s labels entries t ≡ 0
-  threshold_answers h l = ap (λ b. refusal_of s labels entries true (unless b 10)) (lt-ltb t s.n l) ∙ h
+  pub threshold_answers : IsScheme s labels entries → t < s.n → threshold_refusal_lem s labels entries t ≡ Ok tt
+  threshold_answers h l = ap (λ b. refusal_of s labels entries true (unless b R.Threshold)) (lt-ltb t s.n l) ∙ h
 
   -- Of two set numbers that break the threshold only one is the first.
   first_unique : (a b : ℕ) → FirstBreaking s labels entries t a → FirstBreaking s labels entries t b → a ≡ b
@@ -49,14 +50,14 @@ module _ (s : Shape) (labels entries : List ℕ) (t : ℕ) where
       (same? a b)
 
   -- Two answers that the contract permits are equal.
-  pub settled : (a b : Verdict) → ThresholdSays s labels entries t a → ThresholdSays s labels entries t b → a ≡ b
+  pub settled : (a b : Result (Option ℕ) Refusal) → ThresholdSays s labels entries t a → ThresholdSays s labels entries t b → a ≡ b
   unfolding ThresholdSays
-  settled Yes Yes x y = refl
-  settled Yes (No set) x y = absurd (y.1.breaks (x.1 set y.1.inside))
-  settled Yes (Refused k) x y = absurd (omega (arith, x.0, y.0, y.1))
-  settled (No set) Yes x y = absurd (x.1.breaks (y.1 set x.1.inside))
-  settled (No set) (No other) x y = ap No (first_unique set other x.1 y.1)
-  settled (No set) (Refused k) x y = absurd (omega (arith, x.0, y.0, y.1))
-  settled (Refused j) Yes x y = absurd (omega (arith, x.0, x.1, y.0))
-  settled (Refused j) (No set) x y = absurd (omega (arith, x.0, x.1, y.0))
-  settled (Refused j) (Refused k) x y = ap Refused (sym x.0 ∙ y.0)
+  settled (Ok None) (Ok None) x y = refl
+  settled (Ok None) (Ok (Some set)) x y = absurd (y.1.breaks (x.1 set y.1.inside))
+  settled (Ok None) (Err k) x y = absurd (not_both _ x.0 y)
+  settled (Ok (Some set)) (Ok None) x y = absurd (x.1.breaks (y.1 set x.1.inside))
+  settled (Ok (Some set)) (Ok (Some other)) x y = ap (λ (n : ℕ). Ok (Some n)) (first_unique set other x.1 y.1)
+  settled (Ok (Some set)) (Err k) x y = absurd (not_both _ x.0 y)
+  settled (Err j) (Ok None) x y = absurd (not_both _ y.0 x)
+  settled (Err j) (Ok (Some set)) x y = absurd (not_both _ y.0 x)
+  settled (Err j) (Err k) x y = ap (λ (k : Refusal). Err k) (one_refusal j k x y)

@@ -1,11 +1,10 @@
 -- The search for the first set number that breaks a threshold. No public contract cites this file.
 -- Assumes nothing.
-use Rattle.std.specs.Prelude.{List, ℕ, ◌<◌, ◌≤◌, ◌^◌}
+use Rattle.std.specs.Prelude.{List, ℕ, Option, Some, None}
 use Rattle.scheme.specs.declared.Shape.{Shape}
-use Rattle.scheme.specs.Threshold.{Keeps}
+use Rattle.scheme.specs.Threshold.{IsThreshold, FirstBreaking}
 
--- r is the first set number that breaks the threshold t, or 2 to the n where none does.
-pub record FirstOrEnd (s : Shape) (labels entries : List ℕ) (t r : ℕ) : Type 0 where
-  pub within : r ≤ 2 ^ s.n
-  pub before : (lower : ℕ) → lower < r → Keeps s labels entries t lower
-  pub here : r < 2 ^ s.n → Keeps s labels entries t r → ⊥
+-- The first set number that breaks the threshold t, where one does.
+unfoldable pub FirstOrNone : Shape → List ℕ → List ℕ → ℕ → Option ℕ → Type 0
+FirstOrNone s labels entries t None = IsThreshold s labels entries t
+FirstOrNone s labels entries t (Some set) = FirstBreaking s labels entries t set

@@ -35,184 +35,88 @@
 
 #![tactic(auto)]
 
-use requests::Read;
 use std::io;
-use std::io::{BufWriter, Write};
+use std::io::{BufRead, BufReader, BufWriter, Read, Write};
 
 const NEWLINE: u8 = 10;
 
+// The most bytes and numbers that a request has.
+const BYTES: usize = 131072;
+
+const NUMBERS: usize = 16384;
+
 // The table of names.
 fn request(to: &mut impl Write, name: &[u8], xs: &[u32]) -> io::Result<bool> {
-    if name == b"check".as_slice() {
-        return answers::check_line(to, xs);
+    match name {
+        b"check" => answers::check_line(to, xs),
+        b"deal" => answers::deal_line(to, xs),
+        b"ask" => answers::ask_line(to, xs),
+        b"join" => answers::join_line(to, xs),
+        b"product" => answers::product_line(to, xs),
+        b"threshold" => answers::threshold_line(to, xs),
+        b"rule" => answers_made::rule_line(to, xs),
+        b"write" => answers_made::write_line(to, xs),
+        b"read" => answers_made::read_line(to, xs),
+        b"panel_new" => answers_panel::new_line(to, xs),
+        b"panel_put" => answers_panel::put_line(to, xs),
+        b"panel_take" => answers_panel::take_line(to, xs),
+        b"panel_code" => answers_panel::code_line(to, xs),
+        _ => Ok(false),
     }
-    if name == b"deal".as_slice() {
-        return answers::deal_line(to, xs);
-    }
-    if name == b"ask".as_slice() {
-        return answers::ask_line(to, xs);
-    }
-    if name == b"join".as_slice() {
-        return answers::join_line(to, xs);
-    }
-    if name == b"product".as_slice() {
-        return answers::product_line(to, xs);
-    }
-    if name == b"threshold".as_slice() {
-        return answers::threshold_line(to, xs);
-    }
-    if name == b"rule".as_slice() {
-        return answers_made::rule_line(to, xs);
-    }
-    if name == b"write".as_slice() {
-        return answers_made::write_line(to, xs);
-    }
-    if name == b"read".as_slice() {
-        return answers_made::read_line(to, xs);
-    }
-    if name == b"panel_new".as_slice() {
-        return answers_panel::new_line(to, xs);
-    }
-    if name == b"panel_put".as_slice() {
-        return answers_panel::put_line(to, xs);
-    }
-    if name == b"panel_take".as_slice() {
-        return answers_panel::take_line(to, xs);
-    }
-    if name == b"panel_code".as_slice() {
-        return answers_panel::code_line(to, xs);
-    }
-    Ok(false)
 }
 
-// The answer to a line, without its end.
+// The answer to a line, without its end; whether the line is a request.
 fn answer(to: &mut impl Write, line: &[u8], numbers: &mut [u32]) -> io::Result<bool> {
-    let read = requests::numbers(requests::text(line), numbers);
-    let Read::Count(n) = read else {
+    if line.len() > BYTES {
+        return Ok(false);
+    }
+    let Some(n) = requests::numbers(requests::text(line), numbers) else {
         return Ok(false);
     };
     request(to, requests::name(line), requests::first(numbers, n))
 }
 
-// A line of `size` bytes has ended; more bytes than there are places were not kept.
-fn end_line(to: &mut impl Write, line: &[u8], size: usize, numbers: &mut [u32]) -> io::Result<()> {
-    if line.len() < size {
-        return show::text(to, b"? no request\n");
-    }
-    let told = answer(to, &line[0..size], numbers)?;
-    if !told {
+fn answer_line(to: &mut impl Write, line: &[u8], numbers: &mut [u32]) -> io::Result<()> {
+    if !answer(to, line, numbers)? {
         show::text(to, b"? no request")?;
     }
-    show::text(to, b"\n")
-}
-
-// One more byte of a line; one past the last place stands for any number of bytes too many.
-fn keep(line: &mut [u8], size: usize, byte: u8) -> usize {
-    if line.len() <= size {
-        return line.len() + 1;
-    }
-    line[size] = byte;
-    size + 1
-}
-
-// One more byte of the input: the size of the line that is being gathered.
-fn take_in(
-    to: &mut impl Write,
-    line: &mut [u8],
-    size: usize,
-    byte: u8,
-    numbers: &mut [u32],
-) -> io::Result<usize> {
-    if byte == NEWLINE {
-        end_line(to, line, size, numbers)?;
-        return Ok(0);
-    }
-    Ok(keep(line, size, byte))
-}
-
-// One more part of the input.
-fn take_in_part(
-    to: &mut impl Write,
-    part: &[u8],
-    line: &mut [u8],
-    size: usize,
-    numbers: &mut [u32],
-) -> io::Result<usize> {
-    let mut gathered = size;
-    let mut i = 0;
-    while i < part.len() {
-        gathered = take_in(to, line, gathered, part[i], numbers)?;
-        i += 1;
-    }
-    Ok(gathered)
-}
-
-// Reads a part and takes it in; its answers are out before more is read. At the input's end the size is what it was, and `more` is false.
-#[derive(Drop)]
-struct Gathered {
-    size: usize,
-    more: bool,
-}
-
-fn read_part(
-    from: &mut impl io::Read,
-    to: &mut impl Write,
-    line: &mut [u8],
-    size: usize,
-    numbers: &mut [u32],
-) -> io::Result<Gathered> {
-    let mut part = [0u8; 65536];
-    let n = from.read(&mut part)?;
-    if n == 0 {
-        return Ok(Gathered {
-            size: size,
-            more: false,
-        });
-    }
-    let gathered = take_in_part(to, &part[..n], line, size, numbers)?;
-    to.flush()?;
-    Ok(Gathered {
-        size: gathered,
-        more: true,
-    })
-}
-
-// Takes in all of the input; the size of a last line that has no end. A proved loop has to end, and nothing says that the input does: it
-// has more turns than any run uses up.
-fn take_in_all(
-    from: &mut impl io::Read,
-    to: &mut impl Write,
-    line: &mut [u8],
-    numbers: &mut [u32],
-) -> io::Result<usize> {
-    let mut size = 0;
-    for _ in 0..u64::MAX {
-        let gathered = read_part(from, to, line, size, numbers)?;
-        let more = gathered.more;
-        size = gathered.size;
-        if !more {
-            return Ok(size);
-        }
-    }
-    Ok(size)
-}
-
-fn run(
-    from: &mut impl io::Read,
-    to: &mut impl Write,
-    line: &mut [u8],
-    numbers: &mut [u32],
-) -> io::Result<()> {
-    let size = take_in_all(from, to, line, numbers)?;
-    if size > 0 {
-        end_line(to, line, size, numbers)?;
-    }
+    show::text(to, b"\n")?;
     to.flush()
 }
 
+// The next line, without its end; none where the input has ended. Of a line with more bytes than a request has, one byte too many is kept.
+fn next_line<'a>(from: &mut impl BufRead, line: &'a mut Vec<u8>) -> io::Result<Option<&'a [u8]>> {
+    line.clear();
+    let size = from
+        .by_ref()
+        .take(BYTES as u64 + 1)
+        .read_until(NEWLINE, line)?;
+    if size == 0 {
+        return Ok(None);
+    }
+    if line.last() == Some(&NEWLINE) {
+        line.pop();
+    } else if line.len() > BYTES {
+        from.skip_until(NEWLINE)?;
+    }
+    Ok(Some(line))
+}
+
+// Answers all lines of the input; a line's answer is out before the next line is read. A proved loop has to end, and nothing says that the
+// input does: it has more turns than any run uses up.
+fn run(from: &mut impl BufRead, to: &mut impl Write, line: &mut Vec<u8>) -> io::Result<()> {
+    let mut numbers = [0; NUMBERS];
+    for _ in 0..u64::MAX {
+        let Some(line) = next_line(from, line)? else {
+            break;
+        };
+        answer_line(to, line, &mut numbers)?;
+    }
+    Ok(())
+}
+
 fn main(rt: HostRuntime) -> io::Result<()> {
-    let mut line = [0u8; 131072];
-    let mut numbers = [0u32; 16384];
+    let mut from = BufReader::new(rt.alloc(), rt.reader())?;
     let mut to = BufWriter::new(rt.alloc(), io::writer(&rt))?;
-    run(&mut rt.reader(), &mut to, &mut line, &mut numbers)
+    run(&mut from, &mut to, &mut Vec::new(rt.alloc()))
 }

@@ -7,6 +7,7 @@
 ghost use Rattle.std.specs.Prelude.{◌≡◌, ℕ, ◌<◌, ◌≤◌, ◌*◌, length, get_or};
 ghost use Rattle.residue.specs.Prime.{Prime};
 
+use residue::Modulus;
 use std::io;
 use std::io::{BufWriter, Write};
 
@@ -31,11 +32,7 @@ fn back(m: &[u32], i: usize, w: usize) -> u32 {
     if i < w {
         return 0;
     }
-    let j = i - w;
-    if j < m.len() {
-        return m[j];
-    }
-    0
+    m.get(i - w).copied().unwrap_or(0)
 }
 
 // What is added to a row of sums: the target at rows 3, 11, 19, ..
@@ -50,53 +47,48 @@ fn added(k: usize, j: usize) -> u32 {
 }
 
 // Column j of row k of powers: 1, k + 1, (k + 1)^2, .., for up to 32 rows.
-fn power(p: u32, k: usize, j: usize, m: &[u32], i: usize) -> u32
-    requires { 0 < p }
-{
+fn power(modulus: Modulus, k: usize, j: usize, m: &[u32], i: usize) -> u32 {
     if j == 0 {
         return 1;
     }
     if k > 31 {
         return 0;
     }
-    residue::mul(p, back(m, i, 1), (k + 1) as u32)
+    modulus.mul(back(m, i, 1), (k + 1) as u32)
 }
 
 // Column j of a row that is the sum of the two rows before it.
-fn sum(p: u32, e: usize, k: usize, j: usize, m: &[u32], i: usize) -> u32
-    requires { (0 < p) × (e ≤ 12) }
+fn sum(modulus: Modulus, e: usize, k: usize, j: usize, m: &[u32], i: usize) -> u32
+    requires { e ≤ 12 }
 {
-    let s = residue::add(p, back(m, i, e), back(m, i, e + e));
-    residue::add(p, s, added(k, j))
+    let s = modulus.add(back(m, i, e), back(m, i, e + e));
+    modulus.add(s, added(k, j))
 }
 
 // The entry at place i, before it is reduced. Seed 0 stands for rows of powers; else every fourth row is a sum.
-fn entry(p: u32, e: usize, seed: u32, x: u32, m: &[u32], i: usize) -> u32
-    requires { (0 < p) × (1 ≤ e) × (e ≤ 12) }
+fn entry(modulus: Modulus, e: usize, seed: u32, x: u32, m: &[u32], i: usize) -> u32
+    requires { (1 ≤ e) × (e ≤ 12) }
 {
     let k = i / e;
     let j = i % e;
     if seed == 0 {
-        return power(p, k, j, m, i);
+        return power(modulus, k, j, m, i);
     }
     if k % 4 == 3 {
-        return sum(p, e, k, j, m, i);
+        return sum(modulus, e, k, j, m, i);
     }
     number(x)
 }
 
 // The matrix of a seed.
-fn fill(p: u32, e: usize, seed: u32, m: &mut [u32])
-    requires { (0 < p) × (1 ≤ e) × (e ≤ 12) }
-    ensures { (i : ℕ) → get_or m.new i 0 < p }
+fn fill(modulus: Modulus, e: usize, seed: u32, m: &mut [u32])
+    requires { (1 ≤ e) × (e ≤ 12) }
+    ensures { (i : ℕ) → get_or m.new i 0 < modulus.p }
 {
     let mut x = seed;
-    let mut i = 0;
-    while i < m.len() {
+    for i in 0..m.len() {
         x = step(x);
-        let y = entry(p, e, seed, x, m, i);
-        m[i] = residue::add(p, y, 0);
-        i += 1;
+        m[i] = modulus.reduce(entry(modulus, e, seed, x, m, i) as u64);
     }
 }
 
@@ -132,47 +124,6 @@ fn choice(d: usize, n: u32, x: u32) -> u32 {
     spread(d, x / 8192 % 65536)
 }
 
-fn mark(xs: &mut [u32]) {
-    let mut i = 0;
-    while i < xs.len() {
-        xs[i] = MARK;
-        i += 1;
-    }
-}
-
-// Whether every place holds the mark.
-fn marked(xs: &[u32]) -> bool {
-    let mut i = 0;
-    while i < xs.len() {
-        if xs[i] != MARK {
-            return false;
-        }
-        i += 1;
-    }
-    true
-}
-
-fn print(to: &mut impl Write, x: u32) -> io::Result<()> {
-    write!(to, "{x} ")
-}
-
-fn print_next(to: &mut impl Write, x: u32) -> io::Result<()> {
-    write!(to, " {x}")
-}
-
-fn print_size(to: &mut impl Write, x: usize) -> io::Result<()> {
-    write!(to, "{x} ")
-}
-
-fn print_all(to: &mut impl Write, xs: &[u32]) -> io::Result<()> {
-    let mut i = 0;
-    while i < xs.len() {
-        print_next(to, xs[i])?;
-        i += 1;
-    }
-    Ok(())
-}
-
 // The end of a line, from the verdict on.
 fn show(
     to: &mut impl Write,
@@ -183,8 +134,10 @@ fn show(
 ) -> io::Result<()> {
     to.write_all(verdict)?;
     write!(to, "{rank}")?;
-    print_all(to, told)?;
-    if !marked(other) {
+    for x in told {
+        write!(to, " {x}")?;
+    }
+    if other.iter().any(|x| *x != MARK) {
         to.write_all(b" CHANGED")?;
     }
     to.write_all(b"\n")
@@ -212,12 +165,9 @@ fn question(
     requires d_bound { (d ≤ 32) × (1 ≤ e) × (e ≤ 12) × (length m.now ≡ d * e) × (length r.old ≡ d) × (length z.old ≡ e) }
     requires by_index { (i : ℕ) → get_or m.now i 0 < p }
 {
-    mark(r);
-    mark(z);
-    print(to, p)?;
-    print_size(to, d)?;
-    print_size(to, e)?;
-    print(to, chosen)?;
+    r.fill(MARK);
+    z.fill(MARK);
+    write!(to, "{p} {d} {e} {chosen} ")?;
     let a = rows::ask(p, d, e, chosen, m, r, z);
     show_either(to, a, r, z)
 }
@@ -239,11 +189,9 @@ fn questions(
 {
     let last = choices(d);
     let mut x = seed;
-    let mut n = 0;
-    while n < last {
+    for n in 0..last {
         x = step(x);
         question(to, p, d, e, choice(d, n, x), m, r, z)?;
-        n += 1;
     }
     Ok(())
 }
@@ -261,7 +209,7 @@ fn matrix(
     requires prime { Prime p }
     requires d_bound { (d ≤ 32) × (1 ≤ e) × (e ≤ 12) × (length m.old ≡ d * e) × (length r.old ≡ d) × (length z.old ≡ e) }
 {
-    fill(p, e, seed, m);
+    fill(Modulus::new(p), e, seed, m);
     questions(to, p, d, e, seed, m, r, z)
 }
 
@@ -276,29 +224,14 @@ fn sized(
     r: &mut [u32],
     z: &mut [u32],
 ) -> io::Result<()> {
-    if !residue::is_modulus(p) {
-        return Ok(());
-    }
-    if d > 32 {
-        return Ok(());
-    }
-    if e < 1 {
-        return Ok(());
-    }
-    if e > 12 {
+    if !residue::is_modulus(p) || d > 32 || e < 1 || e > 12 {
         return Ok(());
     }
     let w = d * e;
-    if w > m.len() {
+    if w > m.len() || d > r.len() || e > z.len() {
         return Ok(());
     }
-    if d > r.len() {
-        return Ok(());
-    }
-    if e > z.len() {
-        return Ok(());
-    }
-    matrix(to, p, d, e, seed, &mut m[0..w], &mut r[0..d], &mut z[0..e])
+    matrix(to, p, d, e, seed, &mut m[..w], &mut r[..d], &mut z[..e])
 }
 
 fn case(to: &mut impl Write, p: u32, d: usize, e: usize, seed: u32) -> io::Result<()> {

@@ -5,99 +5,55 @@
 
 #![tactic(auto)]
 
-ghost use Rattle.std.specs.Prelude.{◌<◌, ◌≤◌, ◌+◌, length, IfOk};
-
+use residue::Modulus;
 use std::io;
 use std::io::Write;
 
 const MODULUS: u32 = 65521;
 
-fn wide(x: u8) -> u32 {
-    x as u32
-}
-
 // A check of bytes: each in turn is added to `by` times what was before.
 fn check_of(before: u32, by: u32, text: &[u8]) -> u32 {
-    let mut check = before;
-    let mut i = 0;
-    while i < text.len() {
-        check = residue::mul_add(MODULUS, wide(text[i]), check, by);
-        i += 1;
-    }
-    check
-}
-
-fn say(to: &mut impl Write, check: u32) -> io::Result<()> {
-    writeln!(to, "{check}")
-}
-
-// The same of the first n bytes.
-fn check_first(before: u32, by: u32, out: &[u8], n: usize) -> u32 {
-    if out.len() < n {
-        return before;
-    }
-    check_of(before, by, &out[0..n])
+    let m = Modulus::new(MODULUS);
+    text.iter()
+        .fold(before, |check, byte| m.mul_add(*byte as u32, check, by))
 }
 
 // Prints the checks of a file's sheet, once its first empty part was seen.
-fn print_checks(to: &mut impl Write, file: &[u8], out: &mut [u8; 1048576]) -> io::Result<()> {
+fn print_checks(to: &mut impl Write, file: &[u8]) -> io::Result<()> {
+    let mut space = [0; 1048576];
     let mut first = 0;
     let mut second = 0;
-    let mut k = 0;
-    while k < sheet_out::PARTS {
-        let n = sheet_out::part_size(file, k, &mut *out);
-        if n == 0 {
-            say(to, first)?;
-            return say(to, second);
+    for k in 0..sheet_out::PARTS {
+        let text = sheet_out::part(file, k, &mut space);
+        if text.is_empty() {
+            writeln!(to, "{first}")?;
+            return writeln!(to, "{second}");
         }
-        first = check_first(first, 31, out, n);
-        second = check_first(second, 257, out, n);
-        k += 1;
+        first = check_of(first, 31, text);
+        second = check_of(second, 257, text);
     }
     Ok(())
 }
 
-fn answer(to: &mut impl Write, full: bool, file: &[u8]) -> io::Result<()> {
-    if full {
-        return sheet_out::print(to, file);
-    }
-    let mut space = [0u8; 1048576];
-    print_checks(to, file, &mut space)
-}
-
-// The number of four bytes, the lowest first.
-fn number(a: u8, b: u8, c: u8, d: u8) -> usize {
-    (a as usize) + 256 * (b as usize) + 65536 * (c as usize) + 16777216 * (d as usize)
-}
-
-// Answers the input whose five bytes stand at `at`; the place after it.
-fn answer_at(to: &mut impl Write, all: &[u8], at: usize) -> io::Result<usize>
-    requires { at < length all.now }
-    ensures { IfOk result (λ end. (at < end) × (end ≤ length all.now)) }
-{
-    let left = all.len() - at;
-    if left < 5 {
-        return Ok(all.len());
-    }
-    let size = number(all[at + 1], all[at + 2], all[at + 3], all[at + 4]);
-    if left - 5 < size {
-        return Ok(all.len());
-    }
-    let start = at + 5;
-    let end = start + size;
-    answer(to, all[at] == 0, &all[start..end])?;
-    Ok(end)
-}
-
+// Answers each input; one that is not all there ends them. No `for`: how far the rest of the input moves on is read from the input.
 fn answer_all(to: &mut impl Write, all: &[u8]) -> io::Result<()> {
-    let mut at = 0;
-    while at < all.len() {
-        at = answer_at(to, all, at)?;
+    let mut rest = all;
+    while let [checks, a, b, c, d, tail @ ..] = rest {
+        let size = u32::from_le_bytes([*a, *b, *c, *d]) as usize;
+        let Some((file, next)) = tail.split_at_checked(size) else {
+            break;
+        };
+        if *checks == 0 {
+            sheet_out::print(to, file)?;
+        } else {
+            print_checks(to, file)?;
+        }
+        rest = next;
     }
     Ok(())
 }
 
-// A part of a sheet is one write, and so is a check: they need no buffer.
+// A part of a sheet is one write, and a check two: they need no buffer.
 fn main(rt: HostRuntime) -> io::Result<()> {
     let mut space = [0u8; 262144];
     let n = input::read_full(&mut rt.reader(), &mut space)?;

@@ -134,20 +134,13 @@ module _ (p e f d : ℕ) (E : List ℕ) (chosen : ℕ → Bool) (q : e ≡ suc f
       (unmet_same p f (entry e E) chosen other k s t (λ j l. agree j (omega arith)) unmet_here).state v H
       (subst (λ (b : Bool). Next p e k s (ltb s e && b) E t v) (agree k (omega arith)) nx) z r r' n o)
 
--- A number of lines after a row fits.
-pub stored_fits : (e s : ℕ) (v : List ℕ) (t : List (List ℕ)) (s' : ℕ) (t' : List (List ℕ)) → Stored e s v t s' t' → s' ≤ s + 1
-stored_fits e s v t s' t' so = ⊎_elim
-    (λ (a : get_or v 25 0 < e). omega (arith, (so.0 a).0))
-    (λ (a : e ≤ get_or v 25 0). omega (arith, (so.1 a).0))
-    (lt_or_ge (get_or v 25 0) e)
-
 -- The first e of the numbers of an array of 32.
-pub part_length : (e : ℕ) (own : List ℕ) → length own ≡ 32 → e ≤ 32 → length (take (e - 0) own) ≡ e
-part_length e own n l = let q : e - 0 ≡ e = omega arith in rw q (length-take-le e own (omega arith))
+pub part_length : (e : ℕ) (own : List ℕ) → length own ≡ 32 → e ≤ 32 → length (take e own) ≡ e
+part_length e own n l = length-take-le e own (omega arith)
 
 -- A part that came back: the rest of the list is as it was.
-pub part_whole : (e : ℕ) (own z : List ℕ) → length own ≡ 32 → e ≤ 32 → length z ≡ e → length (z ++ drop (e - 0) own) ≡ 32
-part_whole e own z n l lz = let q : e - 0 ≡ e = omega arith in rw q (simp (length-append, length-drop) (omega arith))
+pub part_whole : (e : ℕ) (own z : List ℕ) → length own ≡ 32 → e ≤ 32 → length z ≡ e → length (z ++ drop e own) ≡ 32
+part_whole e own z n l lz = simp (length-append, length-drop) (omega arith)
 
 pub kills_row : (p e lines : ℕ) (t : List (List ℕ)) (y z rest : List ℕ) → Prime p → 1 ≤ e → ((i : ℕ) → get_or y i 0 < p) → get_or y (e - 1) 0
     ≡ 1
@@ -169,15 +162,6 @@ it_is_here {here} {x} {y} e h = eqb-true x y (sym e ∙ h)
 
 pub it_is_not_here : {here : Bool} {x y : ℕ} → here ≡ eqb x y → here ≡ false → x ≡ y → ⊥
 it_is_not_here {here} {x} {y} e h q = true≢false (sym (eq-eqb x y q) ∙ sym e ∙ h)
-
--- All rows gone through.
-pub walked_end : (p d e : ℕ) (E : ℕ → ℕ → ℕ) (chosen : ℕ → Bool) (k : ℕ) (counts : List ℕ) (t : List (List ℕ)) (r : List ℕ) → k ≡ d
-    → Marks p (e - 1) E chosen k counts t → Walked p d e E chosen d counts t r
-walked_end p d e E chosen k counts t r q m = record {
-  within = omega arith;
-  marks = subst (λ (k : ℕ). Marks p (e - 1) E chosen k counts t) q m;
-  opens = λ l. absurd (omega arith);
-}
 
 -- Where another choice agrees up to and with the row that gave the target, the walk over it ends there too.
 pub walked_again : (p d e : ℕ) (E : ℕ → ℕ → ℕ) (chosen other : ℕ → Bool) (row k : ℕ) (counts : List ℕ) (t : List (List ℕ)) (r : List ℕ)

@@ -2,23 +2,14 @@
 -- Assumes nothing.
 use mathlib.Core.Path.{◌≡◌, refl, sym, ap, ap₂, subst⁻¹, ◌∙◌}
 use mathlib.Core.List.{List}
-use Prim.Native.Nat.{ℕ, zero, suc, ◌<◌, ◌≤◌, ◌+◌, ◌*◌, ◌^◌}
-use native.Mathlib.Nat.{pow-suc, le_antisymm}
+use Prim.Native.Nat.{ℕ, ◌<◌, ◌+◌, ◌*◌, ◌^◌}
 use native.Mathlib.Numerals.{add-one}
 use native.Mathlib.Omega.{arith}
-use lib.Pow.{pow-add}
 use Rattle.scheme.specs.declared.Shape.{Shape}
 use Rattle.format.specs.Format.{byte_of_lem, front_byte_lem, block_byte}
 use Rattle.format.proofs.Below.{weighted_below}
 use Rattle.format.proofs.Written.{block_check}
 use Rattle.writing.specs.Steps.{weight_of}
-
--- A byte is eight bits: to shift by 8 k bits is to divide by 256 ^ k.
-pub byte_shift : (k : ℕ) → 2 ^ (8 * k) ≡ 256 ^ k
-byte_shift zero = refl
-byte_shift (suc k) =
-    let e : 8 * suc k ≡ 8 * k + 8 = omega arith in
-    ap (λ (n : ℕ). 2 ^ n) e ∙ pow-add 2 (8 * k) 8 ∙ ap (λ (n : ℕ). n * 256) (byte_shift k) ∙ sym (pow-suc 256 k)
 
 pub weight_none : (f : ℕ → ℕ) → 0 ≡ weight_of 0 f
 unfolding weight_of
@@ -34,10 +25,6 @@ module _ (f : ℕ → ℕ) (sum o x r : ℕ) (h : sum ≡ weight_of o f) (e : x 
   pub weight_room : o < 508 → ((k : ℕ) → f k < 256) → sum + r < 2 ^ 32
   unfolding weight_of
   weight_room l below = subst⁻¹ (λ (n : ℕ). n < 2 ^ 32) weight_turn (weighted_below (o + 1) f (omega arith) below)
-
--- A loop that has come to the end has added all.
-pub weight_all : (f : ℕ → ℕ) (n sum o : ℕ) → sum ≡ weight_of o f → o ≤ n → n ≤ o → sum ≡ weight_of n f
-weight_all f n sum o h l u = h ∙ ap (λ (k : ℕ). weight_of k f) (le_antisymm l u)
 
 -- The check's bytes are the last four of the block.
 pub check_bytes : (s : Shape) (labels entries : List ℕ) (b k : ℕ)

@@ -2,15 +2,16 @@
 
 #![tactic(auto)]
 
-ghost use Rattle.std.specs.Prelude.{◌≡◌, [], suc, ◌<◌, ◌≤◌, ◌+◌, ◌*◌, eqb, length};
+ghost use Rattle.std.specs.Prelude.{◌≡◌, suc, ◌<◌, ◌≤◌, ◌+◌, ◌*◌, eqb, length, IfOk};
 ghost use Rattle.lists.proofs.Fill.{Filled};
-ghost use Rattle.scheme.specs.Refusal.{IsScheme};
-ghost use Rattle.format.specs.Format.{byte_of_lem, blocks, kind_of, record_byte_lem, content_byte_lem, front_byte_lem, block_byte, file_of};
+ghost use Rattle.scheme.specs.Tests.{refused};
+ghost use Rattle.scheme.specs.Checked.{IsOf};
+ghost use Rattle.format.specs.Format.{byte_of_lem, blocks, record_byte_lem, content_byte_lem, front_byte_lem, block_byte, file_of};
 ghost use Rattle.format.specs.Writing.{write_refusal_lem};
 ghost use Rattle.writing.specs.Says.{WriteSays};
 ghost use Rattle.writing.specs.Steps.{weight_of};
 
-use scheme::{Outcome, Shape};
+use scheme::{Checked, Refusal, Scheme};
 
 // The heading block and as many row blocks as d needs.
 fn blocks_of(d: usize) -> usize
@@ -24,17 +25,16 @@ fn blocks_of(d: usize) -> usize
 fn file_fits(d: usize, places: usize) -> bool
     ensures { d ≤ 32 → result ≡ eqb places (512 * blocks 1 d) }
 {
-    if 32 < d {
-        return false;
-    }
-    places == 512 * blocks_of(d)
+    d <= 32 && places == 512 * blocks_of(d)
 }
 
-fn write_refusal(s: Shape, labels: &[u32], entries: &[u32], places: usize) -> u32
-    ensures { result ≡ write_refusal_lem 1 s labels.now entries.now places }
+// The scheme, where nothing is refused.
+fn admitted<'a>(scheme: Scheme<'a>, places: usize) -> Result<Checked<'a>, Refusal>
+    ensures refusal { refused result ≡ write_refusal_lem 1 scheme.entry.shape scheme.entry.labels.now scheme.entry.entries.now places }
+    ensures same { IfOk result (IsOf scheme.entry.shape scheme.entry.labels.now scheme.entry.entries.now) }
+    ensures places { IfOk result (λ c. places ≡ 512 * blocks 1 c.shape.d) }
 {
-    let fits = file_fits(s.d, places);
-    scheme::refusal(s, labels, entries, fits)
+    scheme.checked(file_fits(scheme.shape.d, places))
 }
 
 // Numbers little-endian: byte k.
@@ -42,23 +42,14 @@ fn byte_of(x: u32, k: usize) -> u8
     requires { k < 4 }
     ensures { result ≡ byte_of_lem x k }
 {
-    ((x >> (8 * k)) % 256) as u8
-}
-
-fn kind_of(b: usize) -> u8
-    ensures { result ≡ kind_of b }
-{
-    if b == 0 {
-        return 1;
-    }
-    2
+    x.to_le_bytes()[k]
 }
 
 // The heading's content: p, n, d and e. It has no part of the two lists.
-fn heading_byte(s: Shape, j: usize) -> u8
-    requires { (s.n ≤ 16) × (s.d ≤ 32) × (s.e ≤ 12) }
-    ensures { result ≡ content_byte_lem 1 s [] [] 0 j }
+fn heading_byte(scheme: Checked<'_>, j: usize) -> u8
+    ensures { result ≡ content_byte_lem 1 scheme.entry.shape scheme.entry.labels.now scheme.entry.entries.now 0 j }
 {
+    let s = scheme.shape;
     if j < 2 {
         return byte_of(s.p, j);
     }
@@ -75,24 +66,23 @@ fn heading_byte(s: Shape, j: usize) -> u8
 }
 
 // Byte m of the record of row k: the label, then each entry's two bytes.
-fn record_byte(s: Shape, labels: &[u32], entries: &[u32], k: usize, m: usize) -> u8
-    requires scheme { IsScheme s labels.now entries.now }
-    requires k_lt_d { (k < s.d) × (m < 1 + s.e * 2) }
-    ensures { result ≡ record_byte_lem 1 s labels.now entries.now k m }
+fn record_byte(scheme: Checked<'_>, k: usize, m: usize) -> u8
+    requires k_lt_d { (k < scheme.shape.d) × (m < 1 + scheme.shape.e * 2) }
+    ensures { result ≡ record_byte_lem 1 scheme.entry.shape scheme.entry.labels.now scheme.entry.entries.now k m }
 {
     if m == 0 {
-        return labels[k] as u8;
+        return scheme.labels[k] as u8;
     }
     let i = m - 1;
-    byte_of(entries[k * s.e + i / 2], i % 2)
+    byte_of(scheme.entries[k * scheme.shape.e + i / 2], i % 2)
 }
 
 // The content of row block b + 1: 20 records of 25 bytes; columns past e, records past d and what comes after the records are 0.
-fn rows_byte(s: Shape, labels: &[u32], entries: &[u32], b: usize, j: usize) -> u8
-    requires scheme { IsScheme s labels.now entries.now }
+fn rows_byte(scheme: Checked<'_>, b: usize, j: usize) -> u8
     requires b_bound { b < 2 }
-    ensures { result ≡ content_byte_lem 1 s labels.now entries.now (suc b) j }
+    ensures { result ≡ content_byte_lem 1 scheme.entry.shape scheme.entry.labels.now scheme.entry.entries.now (suc b) j }
 {
+    let s = scheme.shape;
     let t = j / 25;
     if t >= 20 {
         return 0;
@@ -105,32 +95,30 @@ fn rows_byte(s: Shape, labels: &[u32], entries: &[u32], b: usize, j: usize) -> u
     if m >= 1 + s.e * 2 {
         return 0;
     }
-    record_byte(s, labels, entries, k, m)
+    record_byte(scheme, k, m)
 }
 
-fn content_byte(s: Shape, labels: &[u32], entries: &[u32], b: usize, j: usize) -> u8
-    requires scheme { IsScheme s labels.now entries.now }
+fn content_byte(scheme: Checked<'_>, b: usize, j: usize) -> u8
     requires b_bound { b < 3 }
-    ensures { result ≡ content_byte_lem 1 s labels.now entries.now b j }
+    ensures { result ≡ content_byte_lem 1 scheme.entry.shape scheme.entry.labels.now scheme.entry.entries.now b j }
 {
     if b == 0 {
-        return heading_byte(s, j);
+        return heading_byte(scheme, j);
     }
-    rows_byte(s, labels, entries, b - 1, j)
+    rows_byte(scheme, b - 1, j)
 }
 
 // Bytes 0 to 507 of block b: mark, kind, version, number, content.
-fn front_byte(s: Shape, labels: &[u32], entries: &[u32], b: usize, o: usize) -> u8
-    requires scheme { IsScheme s labels.now entries.now }
+fn front_byte(scheme: Checked<'_>, b: usize, o: usize) -> u8
     requires b_bound { b < 3 }
-    ensures { result ≡ front_byte_lem 1 s labels.now entries.now b o }
+    ensures { result ≡ front_byte_lem 1 scheme.entry.shape scheme.entry.labels.now scheme.entry.entries.now b o }
 {
     if o < 4 {
         let mark = b"QRUL";
         return mark[o];
     }
     if o == 4 {
-        return kind_of(b);
+        return format::kind(b);
     }
     if o == 5 {
         return 1;
@@ -138,33 +126,21 @@ fn front_byte(s: Shape, labels: &[u32], entries: &[u32], b: usize, o: usize) -> 
     if o < 8 {
         return byte_of(b as u32, o - 6);
     }
-    content_byte(s, labels, entries, b, o - 8)
-}
-
-// What the byte at place o of a block adds to the block's check.
-fn weighted(x: u8, o: usize) -> u32
-    requires { o < 508 }
-    ensures { result ≡ x * (o + 1) }
-{
-    (x as u32) * ((o + 1) as u32)
+    content_byte(scheme, b, o - 8)
 }
 
 // Bytes 0 to 507 of block b written; the block's check, not reduced.
-fn write_front(s: Shape, labels: &[u32], entries: &[u32], b: usize, file: &mut [u8]) -> u32
-    requires scheme { IsScheme s labels.now entries.now }
+fn write_front(scheme: Checked<'_>, b: usize, file: &mut [u8]) -> u32
     requires b_bound { (b < 3) × (512 * b + 512 ≤ length file.old) }
-    ensures sum { result ≡ weight_of 508 (front_byte_lem 1 s labels.now entries.now b) }
-    ensures left { Filled (512 * b) 508 (front_byte_lem 1 s labels.now entries.now b) file.old
+    ensures sum { result ≡ weight_of 508 (front_byte_lem 1 scheme.entry.shape scheme.entry.labels.now scheme.entry.entries.now b) }
+    ensures left { Filled (512 * b) 508 (front_byte_lem 1 scheme.entry.shape scheme.entry.labels.now scheme.entry.entries.now b) file.old
         file.new 508 }
 {
     let at = 512 * b;
     let mut check = 0;
-    let mut o = 0;
-    while o < 508 {
-        let x = front_byte(s, labels, entries, b, o);
-        file[at + o] = x;
-        check += weighted(x, o);
-        o += 1;
+    for (o, x) in file[at..at + 508].iter_mut().enumerate() {
+        *x = front_byte(scheme, b, o);
+        check += format::weighted(*x, o);
     }
     check
 }
@@ -174,45 +150,34 @@ fn write_check(check: u32, at: usize, file: &mut [u8])
     requires { at + 4 ≤ length file.old }
     ensures { Filled at 4 (byte_of_lem check) file.old file.new 4 }
 {
-    let mut k = 0;
-    while k < 4 {
-        file[at + k] = byte_of(check, k);
-        k += 1;
-    }
+    file[at..at + 4].copy_from_slice(&check.to_le_bytes());
 }
 
-fn write_block(s: Shape, labels: &[u32], entries: &[u32], b: usize, file: &mut [u8])
-    requires scheme { IsScheme s labels.now entries.now }
+fn write_block(scheme: Checked<'_>, b: usize, file: &mut [u8])
     requires b_bound { (b < 3) × (512 * b + 512 ≤ length file.old) }
-    ensures { Filled (512 * b) 512 (block_byte 1 s labels.now entries.now b) file.old
+    ensures { Filled (512 * b) 512 (block_byte 1 scheme.entry.shape scheme.entry.labels.now scheme.entry.entries.now b) file.old
         file.new 512 }
 {
-    let check = write_front(s, labels, entries, b, &mut *file);
+    let check = write_front(scheme, b, file);
     write_check(check, 512 * b + 508, file);
 }
 
-fn write_blocks(s: Shape, labels: &[u32], entries: &[u32], file: &mut [u8])
-    requires scheme { IsScheme s labels.now entries.now }
-    requires file_len { length file.old ≡ 512 * blocks 1 s.d }
-    ensures { file.new ≡ file_of 1 s labels.now entries.now }
+fn write_blocks(scheme: Checked<'_>, file: &mut [u8])
+    requires { length file.old ≡ 512 * blocks 1 scheme.shape.d }
+    ensures { file.new ≡ file_of 1 scheme.entry.shape scheme.entry.labels.now scheme.entry.entries.now }
 {
-    let count = blocks_of(s.d);
-    let mut b = 0;
-    while b < count {
-        write_block(s, labels, entries, b, &mut *file);
-        b += 1;
+    let count = blocks_of(scheme.shape.d);
+    for b in 0..count {
+        write_block(scheme, b, file);
     }
 }
 
 // Writes the file of a scheme. Wrong answers that the contract rules out: done with a check that is cut to its low two bytes; done with a
 // file of three blocks in which both row blocks are numbered 1.
-pub fn write(s: Shape, labels: &[u32], entries: &[u32], file: &mut [u8]) -> Outcome
-    ensures { WriteSays s labels.now entries.now file.old result file.new }
+pub fn write(scheme: Scheme<'_>, file: &mut [u8]) -> Result<(), Refusal>
+    ensures { WriteSays scheme.entry.shape scheme.entry.labels.now scheme.entry.entries.now file.old result file.new }
 {
-    let bad = write_refusal(s, labels, entries, file.len());
-    if bad != 0 {
-        return Outcome::Refused(bad);
-    }
-    write_blocks(s, labels, entries, file);
-    Outcome::Done
+    let checked = admitted(scheme, file.len())?;
+    write_blocks(checked, file);
+    Ok(())
 }

@@ -4,4 +4,4 @@ use Rattle.clavirost.proofs.Handing.{panel_made}
 use Rattle.clavirost.proofs.panel_of.Goals as goal
 
 pub returns : goal.returns
-returns c = panel_made _ _ _ _ _ _ _ _ c.thirty_two.ensures c.all_entries.ensures c.thirty_two-2.ensures
+returns c = panel_made _ _ _ _ _ _ _ _ c.array.ensures c.array-2.ensures c.array-3.ensures

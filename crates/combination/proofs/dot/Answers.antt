@@ -1,45 +1,21 @@
--- `combination::dot` meets its contract. The loop's invariant: the products of the first i places are added up modulo p.
+-- `combination::dot` meets its contract. The loop's invariant: the products of the places so far are added up modulo p.
 -- Assumes nothing.
-use native.Mathlib.Omega.{arith}
-use Rattle.linear.proofs.Summing.{sum_start, sum_turn, sum_end}
+use Rattle.std.proofs.Common.{◌≡◌, ℕ, List, ◌+◌, ◌*◌, ◌%◌, ◌<◌, rules, length, length-append, ap, sym, ◌∙◌, subst}
+use Rattle.std.proofs.lemmas.Slice.Zip.{zip_turn}
+use Rattle.linear.specs.Flat.{place}
+use Rattle.linear.proofs.Summing.{Summing, sum_turn}
 use Rattle.combination.proofs.dot.Goals as goal
 
-pub overflow_mul-at : goal.overflow_mul-at
-overflow_mul-at c = omega arith
+-- place i of each list is read
+turn : (p : ℕ) (a x : List ℕ) (sum i j y z r : ℕ) → Summing p (length x) (λ k. place a k * place x k) sum i → i < length x
+    → y ≡ place a i → z ≡ place x i → r ≡ (sum + y * z) % p → r < p → j ≡ i + 1
+    → Summing p (length x) (λ k. place a k * place x k) r j
+turn p a x sum i j y z r h l ey ez e lt next =
+    subst (Summing p (length x) (λ k. place a k * place x k) r) (sym next)
+    (sum_turn p (length x) (λ k. place a k * place x k) sum i r h l
+    (e ∙ ap (λ v. (sum + v * z) % p) ey ∙ ap (λ v. (sum + place a i * v) % p) ez) lt)
 
-pub loop-i-init : goal.loop-i-init
-loop-i-init c = sum_start _ _ _ c.requires.0
-
-pub overflow_add-at : goal.overflow_add-at
-overflow_add-at c = omega arith
-
-pub offset_bounds-a-at : goal.offset_bounds-a-at
-offset_bounds-a-at c = omega arith
-
-pub bounds-a-at : goal.bounds-a-at
-bounds-a-at c = omega arith
-
-pub offset_bounds-x-i : goal.offset_bounds-x-i
-offset_bounds-x-i c = omega arith
-
-pub bounds-x-i : goal.bounds-x-i
-bounds-x-i c = omega arith
-
-pub mul_add-sum-requires : goal.mul_add-sum-requires
-mul_add-sum-requires c = omega arith
-
-pub overflow_add-i : goal.overflow_add-i
-overflow_add-i c = omega arith
-
-pub loop-i-smaller : goal.loop-i-smaller
-loop-i-smaller c = omega arith
-
-pub loop-i-preserved : goal.loop-i-preserved
-loop-i-preserved c =
-    let r = c.mul_add-sum.ensures in
-    sum_turn _ _ _ _ _ _ c.loop-i.invariant c.loop-i-test.true r.0 r.1
-
-pub returns : goal.returns
-returns c =
-    let h = c.loop-i.invariant in
-    record { is = sum_end _ _ _ _ _ h c.loop-i-test.false; below = h.below }
+pub loop-y-preserved : goal.loop-y-preserved
+loop-y-preserved c =
+    let z = zip_turn c.args.a.now c.args.x.now _ c.into_iter-y-iterator.result _ c.next.new.self _ (search rules) (search rules) c.loop-y.yielded_by _ c.in-Some.is c.next.ensures.steps in
+    turn _ _ _ _ _ _ _ _ _ c.loop-y.invariant z.1 (z.2 0) (z.3 0) c.mul_add-sum.ensures.0 c.mul_add-sum.ensures.1 (length-append _ _)

@@ -4,7 +4,4 @@ use Rattle.combination.specs.Steps.{Downed}
 use Rattle.combination.proofs.down.Given as goal
 
 abbrev pub invariant-loop-k : goal.invariant-loop-k
-invariant-loop-k l = Downed l.p l.m l.n l.vectors l.duals l.initial.t l.initial.c l.t l.c l.k
-
-abbrev pub decreases-loop-k : goal.decreases-loop-k
-decreases-loop-k l = l.k
+invariant-loop-k l = Downed l.modulus.p l.m l.n l.vectors l.duals l.initial.t l.initial.c l.t l.c l.k

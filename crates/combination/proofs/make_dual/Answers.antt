@@ -1,43 +1,31 @@
 -- `combination::make_dual` meets its contract: what `down` leaves of vector k is 0, then the vector is a combination and its dual 0; or
 -- it is separated, and what is 1 on it is 1 on the vector (`duals_next`). Assumes nothing.
-use native.Mathlib.Omega.{arith}
-use Rattle.combination.proofs.Steps.{duals_next}
+use Rattle.std.proofs.Common.{◌≡◌, ℕ, ◌+◌, ◌-◌, ◌*◌, ◌<◌, ◌≤◌, rules, length, List, ap, ◌∙◌}
+use Rattle.std.proofs.lemmas.List.{places}
+use borrow.Rule.Slice.PartMut.{put_mid}
+use Rattle.linear.specs.Flat.{place, entry}
+use Rattle.combination.proofs.Steps.{row_at, duals_next}
 use Rattle.combination.proofs.make_dual.Goals as goal
 
-pub fetch-requires : goal.fetch-requires
-fetch-requires c = omega arith
+-- what is copied into a table stands there, and the vectors before stay
+stored : (k n i : ℕ) (a x y : List ℕ) → k * n + n ≤ length a → y ≡ x → length x ≡ n → i < n
+    → entry n (put_mid (k * n) (k * n + n - k * n) a y) k i ≡ place x i
+stored k n i a x y f e len l = search (rules, places)
 
-pub separate-requires : goal.separate-requires
-separate-requires c =
-    let q = c.requires.n_in_bounds in
-    record {
-      prime = c.requires.prime;
-      n_in_bounds = (omega (arith, q.0), omega (arith, q.1), c.down.ensures.len, q.3);
-      duals_of = c.requires.duals_of;
-    }
-
-pub store-requires : goal.store-requires
-store-requires c = (c.separate.ensures.len, c.requires.n_in_bounds.1)
-
-pub shape_of-duals : goal.shape_of-duals
-shape_of-duals c = omega arith
-
-pub shape_of-t : goal.shape_of-t
-shape_of-t c = omega arith
-
-pub shape_of-u : goal.shape_of-u
-shape_of-u c = omega arith
-
-pub shape_of-c : goal.shape_of-c
-shape_of-c c = omega arith
+kept : (k n j : ℕ) (a y : List ℕ) → k * n + n ≤ length a → j < k * n → place (put_mid (k * n) (k * n + n - k * n) a y) j ≡ place a j
+kept k n j a y f l = search (rules, places)
 
 pub returns : goal.returns
 returns c =
-    let z = c.store.ensures in
+    let q = c.requires.n_in_bounds in
     record {
-      duals_size = z.size;
+      duals_size = search rules;
       t_len = c.down.ensures.len;
       u_len = c.separate.ensures.len;
       c_size = c.down.ensures.size;
-      is = duals_next _ _ _ _ _ _ _ _ _ _ _ c.requires.duals_of c.fetch.ensures c.down.ensures c.separate.ensures z;
+      is = duals_next _ _ _ _ _ _ _ _ _ _ _ c.requires.duals_of
+          (λ i l. ap (λ x. place x i) c.copy_from_slice.ensures.after ∙ row_at _ _ _ i l)
+          c.down.ensures c.separate.ensures
+          (λ i l. stored _ _ i _ _ _ q.1 c.copy_from_slice-2.ensures.after c.separate.ensures.len l)
+          (λ j l. kept _ _ j _ _ q.1 l);
     }

@@ -1,6 +1,6 @@
 -- `panel::lay` meets its contract. The loop's invariant: laying the rest of the shares at the rest of the rows gives the whole.
 -- Assumes nothing.
-use Prim.Native.Nat.{◌+◌, ◌≤◌, ◌-◌}
+use Prim.Native.Nat.{◌+◌}
 use mathlib.Core.Path.{◌≡◌}
 use mathlib.Core.List.{◌++◌}
 use lib.ListN.{length, take, drop}
@@ -9,8 +9,5 @@ use Rattle.panel.proofs.lay.Given as goal
 
 abbrev pub invariant-loop-i : goal.invariant-loop-i
 invariant-loop-i l =
-    (l.i ≤ length l.labels) × (length l.stored ≡ length l.initial.stored) × (l.k + rows_of l.who (drop l.i l.labels) ≡ length l.shares)
+    (length l.stored ≡ length l.initial.stored) × (l.k + rows_of l.who (drop l.i l.labels) ≡ length l.shares)
     × (take l.i l.stored ++ laid l.who (drop l.i l.labels) (drop l.k l.shares) (drop l.i l.stored) ≡ laid l.who l.labels l.shares l.initial.stored)
-
-abbrev pub decreases-loop-i : goal.decreases-loop-i
-decreases-loop-i l = length l.labels - l.i

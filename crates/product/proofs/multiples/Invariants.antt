@@ -6,7 +6,4 @@ use Prim.Native.Nat.{◌+◌, ◌-◌, ◌*◌, ◌%◌}
 use Rattle.product.proofs.multiples.Given as goal
 
 abbrev pub invariant-loop-i : goal.invariant-loop-i
-invariant-loop-i l = Filled l.at (l.e - l.j) (λ i. entry l.e l.entries l.k l.j * entry l.e l.entries l.k (l.j + i) % l.p) l.initial.a l.a l.i
-
-abbrev pub decreases-loop-i : goal.decreases-loop-i
-decreases-loop-i l = l.e - l.j - l.i
+invariant-loop-i l = Filled l.at (l.scheme.shape.e - l.j) (λ i. entry l.scheme.shape.e l.scheme.entries.now l.k l.j * entry l.scheme.shape.e l.scheme.entries.now l.k (l.j + i) % l.m.p) l.initial.a l.a l.i

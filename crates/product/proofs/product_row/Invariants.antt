@@ -2,11 +2,7 @@
 -- (`Rowing` of proofs/Filling.antt).
 -- Assumes nothing.
 use Rattle.product.proofs.Filling.{Rowing}
-use Prim.Native.Nat.{◌-◌}
 use Rattle.product.proofs.product_row.Given as goal
 
 abbrev pub invariant-loop-j : goal.invariant-loop-j
-invariant-loop-j l = Rowing l.p l.e l.k l.at l.entries l.initial.a l.a l.b l.j
-
-abbrev pub decreases-loop-j : goal.decreases-loop-j
-decreases-loop-j l = l.e - l.j
+invariant-loop-j l = Rowing l.scheme.shape.p l.scheme.shape.e l.k l.at l.scheme.entries.now l.initial.a l.a l.b l.j

@@ -2,11 +2,7 @@
 -- proofs/Filling.antt).
 -- Assumes nothing.
 use Rattle.product.proofs.Filling.{Filling}
-use Prim.Native.Nat.{◌-◌}
 use Rattle.product.proofs.product_rows.Given as goal
 
 abbrev pub invariant-loop-k : goal.invariant-loop-k
-invariant-loop-k l = Filling l.p l.d l.e l.entries l.initial.a l.a l.k
-
-abbrev pub decreases-loop-k : goal.decreases-loop-k
-decreases-loop-k l = l.d - l.k
+invariant-loop-k l = Filling l.scheme.shape.p l.scheme.shape.d l.scheme.shape.e l.scheme.entries.now l.initial.a l.a l.k

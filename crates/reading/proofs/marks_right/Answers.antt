@@ -1,26 +1,8 @@
--- `reading::marks_right` meets its contract. The loop's invariant: the first b blocks pass the test.
+-- `reading::marks_right` meets its contract.
 -- Assumes nothing.
-use native.Mathlib.Omega.{arith}
-use Rattle.scheme.proofs.Tests.{failed, passed}
-use Rattle.reading.proofs.Trying.{try_start, try_turn, try_stop, try_end}
-use Rattle.std.proofs.lemmas.Bool.{not_from_true, not_from_false}
+use Rattle.std.proofs.Common.{refl, rules, tests}
+use Rattle.reading.proofs.Tests.{all_counted}
 use Rattle.reading.proofs.marks_right.Goals as goal
 
-pub loop-b-init : goal.loop-b-init
-loop-b-init c = try_start _ _
-
-pub mark_right-requires : goal.mark_right-requires
-mark_right-requires c = omega arith
-
-pub returns-then-not-mark_right : goal.returns-then-not-mark_right
-returns-then-not-mark_right c =
-    let l = c.loop-b in
-    try_stop _ _ l.b (omega arith) (failed c.mark_right.ensures (not_from_false c.mark_right.result c.if-not-mark_right.true))
-
-pub loop-b-preserved : goal.loop-b-preserved
-loop-b-preserved c =
-    let l = c.loop-b in
-    try_turn _ _ l.b l.invariant (omega arith) (passed c.mark_right.ensures (not_from_true c.mark_right.result c.if-not-mark_right.false))
-
 pub returns : goal.returns
-returns c = let l = c.loop-b in try_end _ _ l.b l.invariant (omega arith)
+returns c = all_counted _ _ c.all.ensures.ran refl (λ x b q k. search (rules, tests))

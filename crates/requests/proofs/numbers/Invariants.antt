@@ -1,13 +1,7 @@
 -- `requests::numbers` answers what a text says. What is stored and what the rest of the text goes on with are its numbers at each turn.
--- Assumes nothing.
-use mathlib.Core.Path.{◌≡◌}
-use Prim.Native.Nat.{◌≤◌, ◌-◌}
-use lib.ListN.{length, drop}
-use Rattle.requests.specs.Text.{Reads}
+use Rattle.std.proofs.Common.{drop, Some}
+use Rattle.requests.specs.Text.{ReadsOn}
 use Rattle.requests.proofs.numbers.Given as goal
 
-abbrev pub invariant-loop-i : goal.invariant-loop-i
-invariant-loop-i l = (l.i ≤ length l.text) × (length l.out ≡ length l.initial.out) × Reads l.text l.out l.state (drop l.i l.text)
-
-abbrev pub decreases-loop-i : goal.decreases-loop-i
-decreases-loop-i l = length l.text - l.i
+abbrev pub invariant-loop-byte : goal.invariant-loop-byte
+invariant-loop-byte l = ReadsOn l.text l.out (Some l.count) l.value (drop l.byte-index l.text)

@@ -1,26 +1,21 @@
--- `requests::to_bytes` meets its contract: each `return` is a case of `BytesSay`.
--- Assumes nothing.
-use mathlib.Core.Path.{sym, ◌∙◌}
-use Rattle.requests.proofs.Bytes.{no_places, no_bytes, bytes}
+-- `requests::to_bytes` meets its contract: what is copied are bytes, and in the end they stand over the first places.
+use Rattle.std.proofs.Common.{sym, refl, arith, rules}
+use Rattle.lists.proofs.Fill.{fill_start, fill_turn}
+use Rattle.scheme.proofs.Refusals.{below_at}
+use Rattle.requests.proofs.Bytes.{bytes, copied}
 use Rattle.requests.proofs.to_bytes.Goals as goal
 
-pub returns-then-out-xs : goal.returns-then-out-xs
-returns-then-out-xs c = no_places c.args.xs.now _ c.if-out-xs.true
+pub loop-i-init : goal.loop-i-init
+loop-i-init c = fill_start _ _ _ _
 
-pub returns-then-not-all_below : goal.returns-then-not-all_below
-returns-then-not-all_below c =
-    let a = c.all_below in
-    no_bytes c.args.xs.now _
-    (sym a.ensures ∙ c.if-not-all_below.true) c.if-out-xs.false
+pub overflow_cast-out : goal.overflow_cast-out
+overflow_cast-out c = search (rules, below_at 256 c.args.xs.now (omega arith) (sym c.if-not-all_below.ensures) c.loop-i.i)
 
-pub copy_bytes-requires : goal.copy_bytes-requires
-copy_bytes-requires c =
-    let a = c.all_below in
-    (c.if-out-xs.false, sym a.ensures ∙ c.if-not-all_below.false)
+pub loop-i-preserved : goal.loop-i-preserved
+loop-i-preserved c =
+    fill_turn _ _ _ _ _ _ _ _ c.loop-i.invariant (omega arith) (omega (arith, c.if-out-xs.false)) (omega arith) refl
 
 pub returns : goal.returns
 returns c =
-    let a = c.all_below in
-    bytes _ _ _ (sym a.ensures ∙ c.if-not-all_below.false)
-    c.if-out-xs.false
-    c.copy_bytes.ensures
+    bytes c.args.xs.now _ _ (sym c.if-not-all_below.ensures) c.if-out-xs.false
+    (copied c.args.xs.now _ _ _ c.loop-i.invariant c.loop-i-test.false c.if-out-xs.false)

@@ -1,138 +1,61 @@
 -- `rows::ask` meets its contract. The loop keeps `Going` (specs/State.antt): the table is that of the rows gone through, and r holds the
 -- opening vector once the target has turned up.
 -- Assumes nothing.
-use mathlib.Core.Path.{◌≡◌, ap, ◌∙◌}
-use Prim.Native.Nat.{ℕ, suc, ◌-◌}
-use native.Mathlib.Omega.{arith}
-use lib.ListN.{length, get_or}
+use Rattle.std.proofs.Common.{◌≡◌, ℕ, ◌-◌, arith, refl, replicate, ap, ◌∙◌, subst, length, get_or}
 use Rattle.linear.specs.Bits.{bit}
-use Rattle.lists.proofs.Store.{row_fits}
-use Rattle.rows.proofs.Ends.{going_length, sources, state_stepped, next_inverse, answered_open, answered_closed}
-use Rattle.rows.proofs.Turns.{going_start, going_next, store_room}
+use Rattle.rows.specs.Answered.{Answered}
+use Rattle.rows.proofs.Lists.{none_rows}
+use Rattle.rows.proofs.Ends.{going_length, sources, state_stepped, answered_open, answered_closed}
+use Rattle.rows.proofs.Turns.{Settled, settled_target, settled_other, going_start, going_next}
 use Rattle.rows.proofs.ask.Goals as goal
-
-pub ratio-inv-requires : goal.ratio-inv-requires
-ratio-inv-requires c = let two = c.requires.prime.two in omega arith
+use Rattle.rows.proofs.ask.Goals.{then-is_target, else-is_target}
 
 pub loop-k-init : goal.loop-k-init
 loop-k-init c =
-    let q : c.args.e ≡ suc (c.args.e - 1) = omega arith in (
-      omega arith,
-      going_start c.args.p c.args.e (c.args.e - 1) c.args.d c.args.entries.now (bit c.args.chosen) q
-          c.blank-t.result c.args.r.now c.blank-t.ensures.0 (λ lp j i. rw (c.blank-t.ensures.1 j i) (omega arith)),
-    )
+    let a = c.args in
+    going_start c.new-f.result.m.p a.e (a.e - 1) a.d a.entries.now (bit a.chosen) (omega arith) (replicate 12 (replicate 27 0)) a.r.now refl
+    (λ lp j i. rw (none_rows 12 j i) (omega arith))
 
-pub next_line-v-requires : goal.next_line-v-requires
-next_line-v-requires c =
-    let l = c.loop-k in
-    let g = l.invariant.1 in
-    let st = g.state in
-    let fits = st.fits in
-    record {
-      prime = c.requires.prime;
-      le_e = (
-        c.requires.d_bound.1,
-        c.requires.d_bound.2,
-        omega arith,
-        omega arith,
-        omega
-            (arith, row_fits l.k c.args.d c.args.e (omega arith), c.requires.d_bound.3),
-      );
-      ratio = c.ratio-inv.ensures.1;
-      low = (λ lp i. let h = c.requires.by_index i in omega arith);
-      lows = st.lows;
-      pivots = (λ j lj. let h = st.pivs j lj in omega arith);
-      stepped = state_stepped _ _ _ _ _ _ _ c.requires.prime st;
-    }
+pub next_line-v-requires-clause-stepped : goal.next_line-v-requires-clause-stepped
+next_line-v-requires-clause-stepped c = state_stepped _ _ _ _ _ _ _ c.new-f.result.prime c.loop-k.invariant.state
 
-pub settle-opens-requires : goal.settle-opens-requires
-settle-opens-requires c =
-    let l = c.loop-k in
-    let g = l.invariant.1 in
-    let st = g.state in
-    let fits = st.fits in
-    let nx = c.next_line-v.ensures in
-    let piv = nx.shape.piv in
-    let two = c.requires.prime.two in
-    let n = going_length _ _ _ _ _ _ _ _ _ _ _ g in
-    record {
-      lt_p = (omega arith, omega arith, omega (arith, c.requires.d_bound.4), omega arith, omega arith);
-      ratio = c.ratio-inv.ensures.1;
-      v_bound = (λ z. next_inverse _ _ _ _ _ _ _ _ nx z);
-      lows = st.lows;
-      by_index = sources _ _ _ _ _ _ _ c.requires.prime st;
-    }
-
-pub store-s-requires : goal.store-s-requires
-store-s-requires c =
-    let l = c.loop-k in
-    let g = l.invariant.1 in
-    λ h. store_room c.args.p c.args.e (c.args.e - 1) c.args.d c.args.entries.now (bit c.args.chosen) (omega arith)
-    l.k l.s l.t g.state c.next_line-v.result c.requires.prime
-    c.requires.d_bound.2 c.next_line-v.ensures h
+pub opening-requires-clause-by_index : goal.opening-requires-clause-by_index
+opening-requires-clause-by_index c = sources _ _ _ _ _ _ _ c.new-f.result.prime c.loop-k.invariant.state
 
 pub loop-k-preserved : goal.loop-k-preserved
 loop-k-preserved c =
+    let a = c.args in
     let l = c.loop-k in
-    let g = l.invariant.1 in (
-      omega arith,
-      going_next c.args.p c.args.e (c.args.e - 1) c.args.d c.args.entries.now (bit c.args.chosen)
-          (omega arith) l.k l.s l.t c.args.r.now l.opens l.r
-          c.next_line-v.result
-          c.settle-opens.result c.settle-opens.new.r
-          c.store-s.result c.store-s.new.t g c.requires.prime c.requires.d_bound.2 c.requires.d_bound.4
-          (going_length _ _ _ _ _ _ _ _ _ _ _ g ∙ c.requires.d_bound.4)
-          c.next_line-v.ensures
-          (c.settle-opens.ensures.found, c.settle-opens.ensures.none) (c.store-s.ensures.kept, c.store-s.ensures.dropped),
-    )
+    let se : Settled c.new-f.result.m.p a.e l.k l.s l.t c.next_line-v.result l.opens l.r c.if-is_target.opens c.if-is_target.r =
+    elim c.if-is_target.branch [
+      | then-is_target w ↦ settled_target w.if-is_target.ensures w.opens-is (rw w.r-is w.opening.ensures)
+      | else-is_target w ↦ settled_other w.if-is_target.ensures w.opens-is w.r-is
+    ]
+    in
+    going_next c.new-f.result.m.p a.e (a.e - 1) a.d a.entries.now (bit a.chosen) (omega arith) l.k l.s l.t a.r.now l.opens l.r
+    c.next_line-v.result c.if-is_target.opens c.if-is_target.r c.store-s.result c.store-s.new.t l.invariant c.new-f.result.prime
+    c.requires.d_bound.2 c.requires.d_bound.4 (going_length _ _ _ _ _ _ _ _ _ _ _ l.invariant ∙ c.requires.d_bound.4)
+    c.next_line-v.ensures se (c.store-s.ensures.kept, c.store-s.ensures.dropped)
 
-pub shape_of-r-then-opens : goal.shape_of-r-then-opens
-shape_of-r-then-opens c = going_length _ _ _ _ _ _ _ _ _ _ _ c.loop-k.invariant.1
-
-pub returns-then-opens : goal.returns-then-opens
-returns-then-opens c =
+pub returns-else-not-opens : goal.returns-else-not-opens
+returns-else-not-opens c =
+    let a = c.args in
     let l = c.loop-k in
-    let kd : l.k ≡ c.args.d = omega arith in
-    answered_open c.args.p c.args.e (c.args.e - 1) c.args.d c.args.chosen c.args.entries.now (omega arith)
-    c.requires.prime l.k l.s l.t c.args.r.now c.args.z.now l.r l.opens c.requires.d_bound.4 kd l.invariant.1
-    c.if-opens.true
+    subst (λ (p : ℕ). Answered p a.d a.e a.chosen a.entries.now a.r.now a.z.now (record { opens = l.opens; rank = l.s }) l.r a.z.now)
+    c.new-f.ensures
+    (answered_open c.new-f.result.m.p a.e (a.e - 1) a.d a.chosen a.entries.now (omega arith) c.new-f.result.prime l.k l.s l.t a.r.now a.z.now
+    l.r l.opens c.requires.d_bound.4 (omega arith) l.invariant c.if-not-opens.false)
 
-pub killing-y-requires : goal.killing-y-requires
-killing-y-requires c =
+pub returns-then-not-opens : goal.returns-then-not-opens
+returns-then-not-opens c =
+    let a = c.args in
     let l = c.loop-k in
-    let g = l.invariant.1 in
-    let st = g.state in
-    let fits = st.fits in
-    let two = c.requires.prime.two in
-    record {
-      lt_p = (omega arith, c.requires.d_bound.1, c.requires.d_bound.2, omega arith);
-      ratio = c.ratio-inv.ensures.1;
-      lows = st.lows;
-      by_index = (g.if_closed c.if-opens.false).1;
-    }
-
-pub unload-requires : goal.unload-requires
-unload-requires c =
-    let n = c.requires.d_bound.5 in
-    (omega arith, omega arith)
-
-pub shape_of-r : goal.shape_of-r
-shape_of-r c =
-    going_length _ _ _ _ _ _ _ _ _ _ _
-    c.loop-k.invariant.1
-
-pub shape_of-z : goal.shape_of-z
-shape_of-z c = c.unload.ensures.first.0
-
-pub returns : goal.returns
-returns c =
-    let l = c.loop-k in
-    let kd : l.k ≡ c.args.d = omega arith in
     let y = c.killing-y in
     let u = c.unload in
-    let n : length c.args.z.now ≡ c.args.e = c.requires.d_bound.5 in
-    answered_closed c.args.p c.args.e (c.args.e - 1) c.args.d c.args.chosen c.args.entries.now (omega arith)
-    c.requires.prime l.k l.s l.t c.args.r.now c.args.z.now l.r l.opens c.requires.d_bound.4 kd l.invariant.1
-    c.if-opens.false y.result u.new.z y.ensures.small.0
-    y.ensures.small.1 y.ensures.kills (u.ensures.first.0 ∙ n) (u.ensures.first.1 ∙ ap (λ (n : ℕ). get_or y.result (n - 1) 0) n)
-    (λ i li. u.ensures.others i (omega arith))
+    let n : length a.z.now ≡ a.e = c.requires.d_bound.5 in
+    subst (λ (p : ℕ). Answered p a.d a.e a.chosen a.entries.now a.r.now a.z.now (record { opens = l.opens; rank = l.s }) l.r u.new.z)
+    c.new-f.ensures
+    (answered_closed c.new-f.result.m.p a.e (a.e - 1) a.d a.chosen a.entries.now (omega arith) c.new-f.result.prime l.k l.s l.t a.r.now a.z.now
+    l.r l.opens c.requires.d_bound.4 (omega arith) l.invariant c.if-not-opens.true y.result u.new.z y.ensures.small.0 y.ensures.small.1
+    y.ensures.kills (u.ensures.first.0 ∙ n) (u.ensures.first.1 ∙ ap (λ (n : ℕ). get_or y.result (n - 1) 0) n)
+    (λ i li. u.ensures.others i (omega arith)))

@@ -1,15 +1,12 @@
 -- `rows::ask` meets its contract. The loop keeps `Going` (specs/State.antt): the table is that of the rows gone through, and r holds the
 -- opening vector once the target has turned up.
 -- Assumes nothing.
-use Prim.Native.Nat.{◌≤◌, ◌-◌}
+use Prim.Native.Nat.{◌-◌}
 use Rattle.rows.specs.State.{Going}
 use Rattle.linear.specs.Bits.{bit}
 use Rattle.linear.specs.Flat.{entry}
 use Rattle.rows.proofs.ask.Given as goal
 
 abbrev pub invariant-loop-k : goal.invariant-loop-k
-invariant-loop-k l = (l.k ≤ l.d) × Going l.p (l.e - 1) l.d (entry l.e l.entries)
+invariant-loop-k l = Going l.f.m.p (l.e - 1) l.d (entry l.e l.entries)
     (bit l.chosen) l.k l.s l.t l.initial.r l.opens l.r
-
-abbrev pub decreases-loop-k : goal.decreases-loop-k
-decreases-loop-k l = l.d - l.k

@@ -1,58 +1,32 @@
 -- `sets::chosen_rows` meets its contract: the number is built from the last row to the first (`Built` of proofs/Mask.antt).
 -- Assumes nothing.
-use Prim.Native.Nat.{◌-◌}
-use native.Mathlib.Omega.{arith}
-use lib.ListN.{length}
-use Rattle.scheme.specs.Sets.{of_set}
-use Rattle.sets.proofs.Mask.{built_start, built_fits, built_turn, built_end, built_small, one_small}
+use Rattle.std.proofs.Common.{◌≡◌, ℕ, List, [], ◌∷◌, ◌++◌, ◌+◌, rules, refl, ap, ◌∙◌, sym, get_or, length, take, arith}
+use Rattle.std.specs.Iterator.Adapters.{rev_source}
+use Rattle.std.specs.Slice.Iter.{iter_rest}
+use Rattle.std.proofs.lemmas.Grind.{common_steps}
+use Rattle.std.proofs.lemmas.List.{take_at, take-take}
+use Rattle.scheme.specs.Sets.{in_set}
+use Rattle.sets.proofs.Mask.{built_turn}
 use Rattle.sets.proofs.chosen_rows.Goals as goal
 
-pub loop-k-init : goal.loop-k-init
-loop-k-init c = built_start _ _
+-- the rows before the last of those that are left
+before : (labels rest rest' : List ℕ) (i : ℕ) → rest ≡ rest' ++ i ∷ [] → rest ≡ take (length rest) labels
+    → (rest' ≡ take (length rest') labels) × (length rest ≡ length rest' + 1)
+before labels rest rest' i e h =
+    let more : length rest ≡ length rest' + 1 = grind (arith, common_steps) in
+    let front : take (length rest') rest ≡ take (length rest') (take (length rest) labels) = ap (take (length rest')) h in (
+      sym (take_at rest' (i ∷ []) _ refl) ∙ ap (take (length rest')) (sym e) ∙ front ∙ take-take (length rest') (length rest) labels (omega arith),
+      more,
+    )
 
-pub overflow_sub-k : goal.overflow_sub-k
-overflow_sub-k c = omega arith
+last : (labels rest rest' : List ℕ) (i : ℕ) → rest ≡ rest' ++ i ∷ [] → rest ≡ take (length rest) labels → i ≡ get_or labels (length rest') 0
+last labels rest rest' i e h = grind (arith, common_steps)
 
-pub offset_bounds-labels-k : goal.offset_bounds-labels-k
-offset_bounds-labels-k c = let u = c.loop-k.invariant.upto in omega arith
-
-pub bounds-labels-k : goal.bounds-labels-k
-bounds-labels-k c = let u = c.loop-k.invariant.upto in omega arith
-
-pub in_set-b-requires : goal.in_set-b-requires
-in_set-b-requires c =
-    let l = c.loop-k in
-    let u = l.invariant.upto in
-    c.requires.by_index (l.k - 1) (omega arith)
-
-pub overflow_mul-chosen : goal.overflow_mul-chosen
-overflow_mul-chosen c =
-    let l = c.loop-k in
-    let h = built_fits (of_set c.args.set c.args.labels.now) (length c.args.labels.now) l.k l.chosen l.invariant
-    (omega arith) c.requires.labels_len_bound in
-    omega arith
-
-pub overflow_add-chosen : goal.overflow_add-chosen
-overflow_add-chosen c =
-    let l = c.loop-k in
-    let h = built_fits (of_set c.args.set c.args.labels.now) (length c.args.labels.now) l.k l.chosen l.invariant
-    (omega arith) c.requires.labels_len_bound in
-    let o = one_small c.in_set-b.result in
-    let q = c.one_if.ensures in
-    omega arith
-
-pub loop-k-smaller : goal.loop-k-smaller
-loop-k-smaller c = omega arith
-
-pub loop-k-preserved : goal.loop-k-preserved
-loop-k-preserved c =
-    let l = c.loop-k in
-    built_turn _ _ _ _ _ c.in_set-b.result l.invariant (omega arith) c.in_set-b.ensures c.one_if.ensures
-
-pub returns : goal.returns
-returns c =
-    let h = c.loop-k.invariant in
-    record {
-      bits = built_end _ _ _ _ h (omega arith);
-      small = built_small _ _ _ _ h (omega arith);
-    }
+pub loop-i-preserved : goal.loop-i-preserved
+loop-i-preserved c =
+    let l = c.loop-i.invariant in
+    let rest = iter_rest (rev_source c.loop-i.i-iterator) in
+    let rest' = iter_rest (rev_source c.next.new.self) in
+    let e : rest ≡ rest' ++ c.in-Some.i.now ∷ [] = search rules in
+    let b = before c.args.labels.now rest rest' c.in-Some.i.now e l.0 in
+    (b.0, built_turn _ _ _ _ _ _ c.in_set-b.result l.1 b.1 (c.in_set-b.ensures ∙ ap (in_set c.args.set) (last c.args.labels.now rest rest' c.in-Some.i.now e l.0)) (search rules))

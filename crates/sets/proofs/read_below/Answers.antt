@@ -1,55 +1,36 @@
--- `sets::read_below` meets its contract. The loop's invariant: what is left of the two lists gives the answer for all of them.
+-- `sets::read_below` meets its contract: `all` is asked of the pairs in turn (`read_all` of proofs/Read.antt).
 -- Assumes nothing.
-use mathlib.Core.Path.{refl, sym, ◌∙◌}
-use native.Mathlib.Omega.{arith}
-use borrow.Author.Tests.{lt-ltb, le-ltb}
-use Rattle.sets.proofs.Read.{read_stop, read_go, read_skip, read_end}
+use Rattle.std.proofs.Common.{◌≡◌, ℕ, ◌≤◌, ◌<◌, List, rules, arith, ap, sym, ◌∙◌, get_or, length}
+use Rattle.std.specs.List.{zip}
+use Rattle.std.proofs.lemmas.Slice.Zip.{length-zip, get_or-zip}
+use Rattle.std.proofs.lemmas.Grind.{get_or_default_zero}
+use Rattle.std.proofs.lemmas.Iterator.{YieldsList-from_zip, YieldsList-from_slice}
+use Rattle.std.proofs.lemmas.Iterator.Search.{all_from_yields_List}
+use borrow.Author.Tests.{tests}
+use Rattle.std.proofs.lemmas.Iterator.Adapters.{serves_from_places}
+use Rattle.sets.proofs.Read.{read_one, read_all}
 use Rattle.sets.proofs.read_below.Goals as goal
-use Rattle.sets.proofs.read_below.Goals.{then-in_set+else-shares-k, else-in_set}
 
-pub loop-k-init : goal.loop-k-init
-loop-k-init c = (omega arith, refl)
+label_at : (ls xs : List ℕ) (k y z : ℕ) → k < length (zip ls xs) → ◌≡◌ {A = ℕ × ℕ} (y, z) (get_or (zip ls xs) k (y, z)) → length ls ≡ length xs
+    → (k < length ls) × (y ≡ get_or ls k 0)
+label_at ls xs k y z l e q =
+    let i : k < length ls = omega (arith, length-zip ls xs) in
+    (i, ap (λ (p : ℕ × ℕ). p.0) (e ∙ get_or-zip ls xs k (y, z) i (omega arith)) ∙ get_or_default_zero ls k y i)
 
-pub offset_bounds-labels-k : goal.offset_bounds-labels-k
-offset_bounds-labels-k c = omega arith
-
-pub bounds-labels-k : goal.bounds-labels-k
-bounds-labels-k c = omega arith
-
-pub in_set-requires : goal.in_set-requires
-in_set-requires c = c.requires.by_index _ c.loop-k-test.true
-
-pub offset_bounds-shares-k : goal.offset_bounds-shares-k
-offset_bounds-shares-k c = omega arith
-
-pub bounds-shares-k : goal.bounds-shares-k
-bounds-shares-k c = omega arith
-
-pub returns-then-shares-k : goal.returns-then-shares-k
-returns-then-shares-k c =
-    let l = c.loop-k in
-    read_stop _ _ c.args.labels.now c.args.shares.now l.k l.invariant.1
-    c.loop-k-test.true c.requires.labels_len
-    (sym c.in_set.ensures ∙ c.if-in_set.true) (le-ltb _ _ c.if-shares-k.true)
-
-pub overflow_add-k : goal.overflow_add-k
-overflow_add-k c = omega arith
-
-pub loop-k-smaller : goal.loop-k-smaller
-loop-k-smaller c = omega arith
-
-pub loop-k-preserved : goal.loop-k-preserved
-loop-k-preserved c =
-    let l = c.loop-k in
-    let t = c.loop-k-test.true in (
-      omega arith,
-      elim c.if-in_set.branch [
-        | then-in_set+else-shares-k w ↦ read_go _ _ c.args.labels.now c.args.shares.now l.k l.invariant.1 t c.requires.labels_len
-            (sym c.in_set.ensures ∙ w.if-in_set.true) (lt-ltb _ _ w.if-shares-k.false)
-        | else-in_set w ↦ read_skip _ _ c.args.labels.now c.args.shares.now l.k l.invariant.1 t c.requires.labels_len
-            (sym c.in_set.ensures ∙ w.if-in_set.false)
-      ],
-    )
+pub all-requires-clause-callable : goal.all-requires-clause-callable
+all-requires-clause-callable c =
+    serves_from_places (YieldsList-from_zip (YieldsList-from_slice c.args.labels.now (search rules)) (YieldsList-from_slice c.args.shares.now (search rules)))
+    (λ x q h. search rules)
+    (λ x k l e.
+    let i = label_at c.args.labels.now c.args.shares.now k x.0.now x.1.now l e c.requires.labels_len in
+    let b = c.requires.by_index k i.0 in
+    let lo : 1 ≤ x.0.now = omega (arith, i.1) in
+    let hi : x.0.now ≤ 16 = omega (arith, i.1) in
+    search rules)
 
 pub returns : goal.returns
-returns c = read_end _ _ _ _ c.loop-k.k c.loop-k.invariant.1 c.loop-k-test.false
+returns c =
+    all_from_yields_List {s = c.zip.result} (λ (q : ℕ × ℕ). read_one c.args.p c.args.set q.0 q.1) c.all.new.self _ c.all.result c.all.ensures.ran
+    (YieldsList-from_zip (YieldsList-from_slice c.args.labels.now (search rules)) (YieldsList-from_slice c.args.shares.now (search rules)))
+    (λ x b q k. search (rules, tests))
+    ∙ sym (read_all c.args.p c.args.set c.args.labels.now c.args.shares.now)

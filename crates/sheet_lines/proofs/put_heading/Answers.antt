@@ -8,8 +8,7 @@ pub returns : goal.returns
 returns c =
     let w = c.put_text-at.ensures in
     let l = c.put_text.ensures in
-    let room = c.requires.2 in
     record {
-      put = put_head c.args.out.now c.args.s w c.put_field-at.ensures.put c.put_field-at-2.ensures.put c.put_field-at-3.ensures.put c.put_field-at-4.ensures.put l;
-      room = omega (arith, w.0, c.put_field-at.ensures.room, c.put_field-at-2.ensures.room, c.put_field-at-3.ensures.room, c.put_field-at-4.ensures.room, l.0, room);
+      put = put_head c.args.out.now c.args.scheme.shape w c.put_field-at.ensures.put c.put_field-at-2.ensures.put c.put_field-at-3.ensures.put c.put_field-at-4.ensures.put l;
+      room = omega (arith, w.0, c.put_field-at.ensures.room, c.put_field-at-2.ensures.room, c.put_field-at-3.ensures.room, c.put_field-at-4.ensures.room, l.0, c.requires);
     }

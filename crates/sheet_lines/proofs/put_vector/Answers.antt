@@ -5,43 +5,29 @@ use Rattle.sheet_lines.proofs.Texts.{vector_start, vector_turn, vector_end}
 use native.Mathlib.Omega.{arith}
 use Rattle.sheet_lines.proofs.put_vector.Goals as goal
 
-pub loop-i-init : goal.loop-i-init
-loop-i-init c =
+pub loop-v-init : goal.loop-v-init
+loop-v-init c =
     let a = c.args in
-    (omega arith, omega arith, refl, vector_start a.out.now a.at a.p a.vector.now)
+    (omega arith, refl, vector_start a.out.now a.at a.p a.vector.now)
 
-pub put_text-end-requires : goal.put_text-end-requires
-put_text-end-requires c = let l = c.loop-i in omega (arith, l.invariant.1, l.invariant.2)
-
-pub put_residue-end-requires : goal.put_residue-end-requires
-put_residue-end-requires c =
-    let l = c.loop-i in
-    let t = c.put_text-end in (
-      c.requires.by_index l.i
-          c.loop-i-test.true,
-      c.requires.p_bound.0,
-      omega (arith, l.invariant.1, l.invariant.2, t.ensures.0, t.auto.out),
-    )
-
-pub loop-i-preserved : goal.loop-i-preserved
-loop-i-preserved c =
+pub loop-v-preserved : goal.loop-v-preserved
+loop-v-preserved c =
     let a = c.args in
-    let l = c.loop-i in
+    let l = c.loop-v in
     let t = c.put_text-end in
     let r = c.put_residue-end in (
-      omega arith,
-      omega (arith, l.invariant.1, t.ensures.0, r.ensures.room),
-      omega (arith, l.invariant.2, t.auto.out, r.auto.out),
-      vector_turn a.out.now a.at a.p a.vector.now l.i
-          c.loop-i-test.true l.invariant.3 t.ensures
+      omega (arith, l.invariant.0, t.ensures.0, r.ensures.room),
+      omega (arith, l.invariant.1, t.auto.out, r.auto.out),
+      vector_turn a.out.now a.at a.p a.vector.now l.v-index
+          c.loop-v-test.true l.invariant.2 t.ensures
           r.ensures.put,
     )
 
 pub returns : goal.returns
 returns c =
     let a = c.args in
-    let l = c.loop-i in
+    let l = c.loop-v in
     record {
-      put = vector_end a.out.now a.at a.p a.vector.now l.i (omega (arith, l.invariant.0)) l.invariant.3;
-      room = omega (arith, l.invariant.0, l.invariant.1);
+      put = vector_end a.out.now a.at a.p a.vector.now l.v-index (omega arith) l.invariant.2;
+      room = omega (arith, l.invariant.0);
     }

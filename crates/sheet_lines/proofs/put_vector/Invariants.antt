@@ -4,12 +4,9 @@ use mathlib.Core.Path.{◌≡◌}
 use Rattle.sheet_lines.specs.Texts.{vector_text}
 use Rattle.digits.specs.Put.{Put}
 use lib.ListN.{length, take}
-use Prim.Native.Nat.{◌+◌, ◌*◌, ◌-◌, ◌≤◌}
+use Prim.Native.Nat.{◌+◌, ◌*◌, ◌≤◌}
 use Rattle.sheet_lines.proofs.put_vector.Given as goal
 
-abbrev pub invariant-loop-i : goal.invariant-loop-i
-invariant-loop-i l =
-    (l.i ≤ length l.vector) × (l.end ≤ l.at + 7 * l.i) × (length l.out ≡ length l.initial.out) × Put l.initial.out l.at (vector_text l.p (take l.i l.vector)) l.end l.out
-
-abbrev pub decreases-loop-i : goal.decreases-loop-i
-decreases-loop-i l = length l.vector - l.i
+abbrev pub invariant-loop-v : goal.invariant-loop-v
+invariant-loop-v l =
+    (l.end ≤ l.at + 7 * l.v-index) × (length l.out ≡ length l.initial.out) × Put l.initial.out l.at (vector_text l.p (take l.v-index l.vector)) l.end l.out

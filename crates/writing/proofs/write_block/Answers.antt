@@ -5,5 +5,5 @@ use Rattle.writing.proofs.write_block.Goals as goal
 
 pub returns : goal.returns
 returns c =
-    let a = c.args in
-    block_whole a.s a.labels.now a.entries.now a.b _ _ _ _ c.write_front-check.ensures.sum c.write_front-check.ensures.left c.write_check.ensures
+    let a = c.args.scheme in
+    block_whole a.shape a.labels.now a.entries.now c.args.b _ _ _ _ c.write_front-check.ensures.sum c.write_front-check.ensures.left c.write_check.ensures

@@ -2,7 +2,6 @@
 -- counted from 1, is added up.
 -- Assumes nothing.
 use mathlib.Core.Path.{◌≡◌}
-use Prim.Native.Nat.{◌-◌}
 use Rattle.lists.proofs.Fill.{Filled}
 use Rattle.format.specs.Format.{front_byte_lem}
 use Rattle.writing.specs.Steps.{weight_of}
@@ -10,7 +9,4 @@ use Rattle.writing.proofs.write_front.Given as goal
 
 abbrev pub invariant-loop-o : goal.invariant-loop-o
 invariant-loop-o l =
-    Filled l.at 508 (front_byte_lem 1 l.s l.labels l.entries l.b) l.initial.file l.file l.o × (l.check ≡ weight_of l.o (front_byte_lem 1 l.s l.labels l.entries l.b))
-
-abbrev pub decreases-loop-o : goal.decreases-loop-o
-decreases-loop-o l = 508 - l.o
+    Filled 0 508 (front_byte_lem 1 l.scheme.shape l.scheme.labels.now l.scheme.entries.now l.b) l.initial.x-items l.x-items l.o × (l.check ≡ weight_of l.o (front_byte_lem 1 l.scheme.shape l.scheme.labels.now l.scheme.entries.now l.b))
