@@ -1,19 +1,18 @@
 -- The turns of the steps, on plain lists: from what the code computes to the turns of linear's proofs/Dual.antt.
 -- Assumes nothing.
 use mathlib.Core.Path.{◌≡◌, refl, sym, ap, ◌∙◌, subst}
-use mathlib.Core.Bool.{Bool, true, false, true≢false, false≢true}
+use mathlib.Core.Bool.{Bool, true, false, not, true≢false, false≢true}
 use mathlib.Core.List.{List, [], ◌∷◌}
 use mathlib.Core.Logic.{inl, ⊎_elim}
 use Prim.Native.Nat.{ℕ, suc, ◌≤◌, ◌<◌, ◌-◌, ◌*◌, ◌+◌, ◌%◌}
 use native.Mathlib.Nat.{le_refl, eq-or-lt_of_le, mod-eq_of_lt}
 use native.Mathlib.Numerals.{add-one}
 use native.Mathlib.Omega.{arith}
-use lib.Dec.{leb}
 use lib.ListN.{length, get_or, set, length-set}
 use lib.Seq.{get_or-set_same, get_or-set_other}
 use Rattle.std.specs.List.{between}
+use Rattle.std.specs.Prelude.{Option, Some, None, is_some}
 use Rattle.std.proofs.lemmas.List.Edits.{get_or-between}
-use borrow.Author.Tests.{leb-true, leb-false}
 use Rattle.algebra.specs.Sum.{dot}
 use Rattle.algebra.proofs.Cases.{below_suc}
 use Rattle.algebra.proofs.Ring.{neg_mul}
@@ -71,16 +70,16 @@ module _ (p k n : ℕ) (a b x₀ : List ℕ) (r : ℕ) (is : r ≡ total n (λ i
     rest = λ H i l. ring (residue_ring p H) (v 0) (v 0 :- c0 :* v 1) refl (λ j. get_or (vec p H x₀ i ∷ row p H n b k i ∷ []) j (res p H 0));
   }
 
-module _ (p n : ℕ) (t u : List ℕ) (c : ℕ) (f : FirstNonzero p n t c) (len : length u ≡ n) (zeros : (i : ℕ) → place u i ≡ 0) where
-  pub seeded_no : n ≤ c → Seeded p n t u false
-  seeded_no l = record {
+module _ (p n : ℕ) (t u : List ℕ) (len : length u ≡ n) (zeros : (i : ℕ) → place u i ≡ 0) where
+  pub seeded_no : FirstNonzero p n t None → Seeded p n t u false
+  seeded_no f = record {
     len = len;
     yes = λ q. absurd (false≢true q);
-    no = λ q H. ((λ i li. zero_res p H (place t i) (f.before i (omega arith))), λ i li. ap (res p H) (zeros i));
+    no = λ q H. ((λ i li. zero_res p H (place t i) (f i li)), λ i li. ap (res p H) (zeros i));
   }
 
-  pub seeded_yes : (b : ℕ) → c < n → b * place t c % p ≡ 1 → Seeded p n t (set u c b) true
-  seeded_yes b l one = record {
+  pub seeded_yes : (b c : ℕ) → c < n → b * place t c % p ≡ 1 → Seeded p n t (set u c b) true
+  seeded_yes b c l one = record {
     len = length-set u c b ∙ len;
     yes = λ q H. (up_start (residues p H) n (λ j. vec p H t) (λ j. vec p H t) (vec p H t) (vec p H (set u c b)) c (res p H b) l
         (ap (res p H) (get_or-set_same u c b 0 (omega arith)))
@@ -176,23 +175,30 @@ module _ (p m n : ℕ) (vectors duals : List ℕ) where
           (g (λ j l. (down H).gone j (omega arith) l)))
           (s.is H)
 
-  -- The answer: i is the first place that is not 0 of what `down` leaves of the target.
-  pub answered : (target t₀ c₀ t c : List ℕ) (i : ℕ) → Prime p → DualsOf p m n vectors duals → t₀ ≡ target
-      → Downed p m n vectors duals t₀ c₀ t c 0 → FirstNonzero p n t i → Found p m n vectors target (leb n i) c
-  answered target t₀ c₀ t c i H D e d f = record {
-    yes = λ q. coeffs_numbers p H n (entry n vectors) m (place target) (place c) (λ k l. d.below k (omega arith) l)
+  down_to : (target t₀ c₀ t c : List ℕ) → t₀ ≡ target → Downed p m n vectors duals t₀ c₀ t c 0
+      → (H : Prime p) → Down (residues p H) n (w H) (y H) m (vec p H target) (vec p H t) (vec p H c) 0
+  down_to target t₀ c₀ t c e = target_is t₀ c₀ t c (place target) (λ j l. ap (λ (l : List ℕ). place l j) e)
+
+  -- The answer: r is the first place that is not 0 of what `down` leaves of the target, and yes that there is none.
+  pub answered : (target t₀ c₀ t c : List ℕ) (r : Option ℕ) (yes : Bool) → Prime p → DualsOf p m n vectors duals → t₀ ≡ target
+      → Downed p m n vectors duals t₀ c₀ t c 0 → FirstNonzero p n t r → is_some r ≡ not yes → Found p m n vectors target yes c
+  answered target t₀ c₀ t c None true H D e d f q = record {
+    yes = λ o. coeffs_numbers p H n (entry n vectors) m (place target) (place c) (λ k l. d.below k (omega arith) l)
         (canon_coeffs (residues p H) n (w H) m (vec p H target) (
           vec p H c,
-          found (residues p H) n (w H) (y H) m (vec p H target) (vec p H t) (vec p H c) down
-              (λ j l. zero_res p H (place t j) (f.before j (omega (arith, leb-true n i q)))),
+          found (residues p H) n (w H) (y H) m (vec p H target) (vec p H t) (vec p H c) (down_to target t₀ c₀ t c e d H)
+              (λ j l. zero_res p H (place t j) (f j l)),
         )
-        (λ k l g. down.only k (omega arith) l g));
-    no = λ q. record {
-      none = λ g. f.here (leb-false n i q) (res_zero p H (vec p H t i)
-          (refused (residues p H) n (w H) (y H) m (vec p H target) (vec p H t) (vec p H c) (D.is H) down
-          (comb_up p H n (entry n vectors) m (place target) g) i (leb-false n i q)));
+        (λ k l g. (down_to target t₀ c₀ t c e d H).only k (omega arith) l g));
+    no = λ o. absurd (true≢false o);
+  }
+  answered target t₀ c₀ t c (Some i) false H D e d f q = record {
+    yes = λ o. absurd (false≢true o);
+    no = λ o. record {
+      none = λ g. f.2 (res_zero p H (vec p H t i)
+          (refused (residues p H) n (w H) (y H) m (vec p H target) (vec p H t) (vec p H c) (D.is H) (down_to target t₀ c₀ t c e d H)
+          (comb_up p H n (entry n vectors) m (place target) g) i f.0));
     };
   }
-    where
-      down : Down (residues p H) n (w H) (y H) m (vec p H target) (vec p H t) (vec p H c) 0
-      down = target_is t₀ c₀ t c (place target) (λ j l. ap (λ (l : List ℕ). place l j) e) d H
+  answered target t₀ c₀ t c None false H D e d f q = absurd (false≢true q)
+  answered target t₀ c₀ t c (Some i) true H D e d f q = absurd (true≢false q)

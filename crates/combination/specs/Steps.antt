@@ -2,7 +2,7 @@
 -- A step holds for every reason H that p is prime: the field of the residues is built on one, and a contract has none at hand.
 -- `vectors` and `duals` are tables of m vectors of n places; dual k is the functional of vector k (`Dual` of linear's proofs/Dual.antt).
 -- Assumes nothing.
-use Rattle.std.specs.Prelude.{◌≡◌, Bool, true, false, List, ◌⊎◌, ℕ, ◌<◌, ◌≤◌, ◌+◌, ◌-◌, ◌*◌, ◌%◌, length}
+use Rattle.std.specs.Prelude.{◌≡◌, Bool, true, false, List, ◌⊎◌, ℕ, ◌<◌, ◌≤◌, ◌+◌, ◌-◌, ◌*◌, ◌%◌, length, Option, Some, None}
 use Rattle.algebra.specs.Sum.{dot}
 use Rattle.residue.specs.Prime.{Prime}
 use Rattle.residue.specs.Residue.{F, res, ◌⊕◌, ◌⊗◌, neg}
@@ -27,11 +27,10 @@ pub record TakenOff (p k n f : ℕ) (b x₀ x : List ℕ) : Type 0 where
   pub len : length x ≡ n
   pub is : (i : ℕ) → i < n → place x i ≡ (place x₀ i + (p - f) * entry n b k i) % p
 
--- r is the first place of x that is not 0 modulo p, or n.
-pub record FirstNonzero (p n : ℕ) (x : List ℕ) (r : ℕ) : Type 0 where
-  pub within : r ≤ n
-  pub before : (i : ℕ) → i < r → place x i % p ≡ 0
-  pub here : r < n → place x r % p ≡ 0 → ⊥
+-- The first place of x that is not 0 modulo p; none where all n places are 0.
+abbrev pub FirstNonzero : ℕ → ℕ → List ℕ → Option ℕ → Type 0
+FirstNonzero p n x (Some r) = (r < n) × ((i : ℕ) → i < r → place x i % p ≡ 0) × (place x r % p ≡ 0 → ⊥)
+FirstNonzero p n x None = (i : ℕ) → i < n → place x i % p ≡ 0
 
 -- x is x₀ less r times vector k of b, now as residues, where r is vector k of a times x₀.
 pub record Cancelled (p k n : ℕ) (a b x₀ x : List ℕ) (r : ℕ) : Type 0 where

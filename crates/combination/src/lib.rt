@@ -56,12 +56,12 @@ fn cancel(modulus: Modulus, k: usize, n: usize, a: &[u32], b: &[u32], x: &mut [u
     f
 }
 
-// The first place of `x` that is not 0 modulo p; n where there is none.
-fn first_nonzero(modulus: Modulus, n: usize, x: &[u32]) -> usize
+// The first place of `x` that is not 0 modulo p.
+fn first_nonzero(modulus: Modulus, n: usize, x: &[u32]) -> Option<usize>
     requires { length x.now ≡ n }
     ensures { FirstNonzero modulus.p n x.now result }
 {
-    x.iter().position(|y| *y % modulus.p != 0).unwrap_or(n)
+    x.iter().position(|y| *y % modulus.p != 0)
 }
 
 // Takes the first m vectors off `t`, from the last to the first, each as often as its dual says; `c` gets how often. A dual is 0 on the
@@ -104,10 +104,9 @@ fn seed(field: PrimeModulus, n: usize, t: &[u32], u: &mut [u32]) -> bool
     ensures { Seeded field.m.p n t.now u.new result }
 {
     u.fill(0);
-    let i = first_nonzero(field.m, n, t);
-    if i >= n {
+    let Some(i) = first_nonzero(field.m, n, t) else {
         return false;
-    }
+    };
     u[i] = field.m.inverse(t[i]);
     true
 }
@@ -202,6 +201,5 @@ pub fn find(
     make_duals(field, m, n, vectors, duals, t, u, c);
     t.copy_from_slice(target);
     down(field.m, m, n, vectors, duals, t, c);
-    let i = first_nonzero(field.m, n, t);
-    i >= n
+    first_nonzero(field.m, n, t).is_none()
 }

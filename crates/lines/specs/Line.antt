@@ -2,7 +2,7 @@
 -- 12 to 23 the factors, negated, with which the lines before it were taken off, 24 the inverse that scaled it, 25 its pivot, 26 the number
 -- of the row of which it was made. No public contract cites this file.
 -- Assumes nothing.
-use Rattle.std.specs.Prelude.{◌≡◌, List, [], ℕ, ◌<◌, ◌≤◌, ◌+◌, ◌-◌, ◌*◌, ◌%◌, length, get_or}
+use Rattle.std.specs.Prelude.{◌≡◌, Bool, false, true, List, [], ℕ, ◌<◌, ◌≤◌, ◌+◌, ◌-◌, ◌*◌, ◌%◌, length, get_or}
 use Rattle.linear.specs.Combination.{total}
 
 -- For a modulus of 16 bits every number of a line, and of a table, has 16 bits: then a sum of products is exact in 64 bits.
@@ -24,9 +24,9 @@ Pivots t s = (j : ℕ) → j < s → at t j 25 < 12
 abbrev pub Stepped : ℕ → List (List ℕ) → ℕ → Type 0
 Stepped p t s = (j : ℕ) → j < s → (at t j (at t j 25) % p ≡ 1) × ((l : ℕ) → j < l → l < s → at t l (at t j 25) % p ≡ 0)
 
--- A place of m that is not 0 is the pivot of one of the first s lines.
-abbrev pub PivotMarks : List (List ℕ) → ℕ → List ℕ → Type 0
-PivotMarks t s m = (i : ℕ) → (get_or m i 0 ≡ 0 → ⊥) → (j : ℕ) × (j < s) × (at t j 25 ≡ i)
+-- A place marked in m is the pivot of one of the first s lines.
+abbrev pub PivotMarks : List (List ℕ) → ℕ → List Bool → Type 0
+PivotMarks t s m = (i : ℕ) → get_or m i false ≡ true → (j : ℕ) × (j < s) × (at t j 25 ≡ i)
 
 -- The first s factors of v times place i of the first s lines.
 abbrev pub col_sum : List ℕ → List (List ℕ) → ℕ → ℕ → ℕ

@@ -66,15 +66,15 @@ fn factors(m: Modulus, s: usize, mut v: [u32; 27], t: &[[u32; 27]; 12]) -> [u32;
     v
 }
 
-// Marks the places that are pivots of the first s lines. The marks are numbers since `PivotMarks` (specs/Line.antt) says so.
-fn pivot_marks(s: usize, t: &[[u32; 27]; 12]) -> [u32; 12]
+// Marks the places that are pivots of the first s lines.
+fn pivot_marks(s: usize, t: &[[u32; 27]; 12]) -> [bool; 12]
     requires s_bound { s ≤ 12 }
     requires pivots { Pivots t.now s }
     ensures { PivotMarks t.now s result }
 {
-    let mut marks = [0u32; 12];
+    let mut marks = [false; 12];
     for line in &t[..s] {
-        marks[line[25] as usize] = 1;
+        marks[line[25] as usize] = true;
     }
     marks
 }
@@ -91,7 +91,7 @@ fn rest(m: Modulus, s: usize, e: usize, v: [u32; 27], t: &[[u32; 27]; 12]) -> [u
     let marks = pivot_marks(s, t);
     let mut x = v;
     for i in 0..e {
-        x[i] = if marks[i] != 0 {
+        x[i] = if marks[i] {
             0
         } else {
             col_dot(m, v[i], &v, t, s, i)

@@ -45,18 +45,7 @@ fn file_size(d: usize) -> usize
     1536
 }
 
-fn print_file(
-    to: &mut impl Write,
-    s: Shape,
-    labels: &[u32],
-    entries: &[u32],
-    file: &mut [u8],
-) -> io::Result<()> {
-    let scheme = Scheme {
-        shape: s,
-        labels,
-        entries,
-    };
+fn print_file(to: &mut impl Write, scheme: Scheme<'_>, file: &mut [u8]) -> io::Result<()> {
     match writing::write(scheme, file) {
         Ok(()) => to.write_all(file),
         Err(why) => say_refused(to, why),
@@ -64,6 +53,7 @@ fn print_file(
 }
 
 // Prints the file of a scheme that was built: its labels and entries are the first of the places that it was built into.
+#[tactic(auto, using(sheets::proofs::FileRead::taken_small))]
 fn print_built(
     to: &mut impl Write,
     s: Shape,
@@ -74,9 +64,13 @@ fn print_built(
     requires labels_len { (length labels.now ≡ 32) × (length entries.now ≡ 384) × (length file.old ≡ 1536) }
     requires entries_value { check_refusal s (take s.d labels.now) (take (s.d * s.e) entries.now) ≡ Ok tt }
 {
-    let cells = s.d * s.e;
+    let scheme = Scheme {
+        shape: s,
+        labels: &labels[..s.d],
+        entries: &entries[..s.d * s.e],
+    };
     let size = file_size(s.d);
-    print_file(to, s, &labels[..s.d], &entries[..cells], &mut file[..size])
+    print_file(to, scheme, &mut file[..size])
 }
 
 fn make(

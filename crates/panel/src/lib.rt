@@ -11,7 +11,7 @@ ghost use Rattle.join.specs.Says.{JoinSays};
 ghost use Rattle.panel.specs.Says.{FreshSays, CodeSays};
 ghost use Rattle.panel.specs.Steps.{places_right_lem, lists_refusal_lem};
 
-use scheme::{Refusal, Scheme, Shape};
+use scheme::{Checked, Refusal, Scheme, Shape};
 
 // A panel's state. Of the labels and the stored shares the first d places are used, of the entries the first d times e.
 #[derive(Clone, Copy)]
@@ -112,22 +112,22 @@ fn lists_refusal(
 }
 
 // A panel without cards, its lists copied.
-fn filled(s: Shape, labels: &[u32], entries: &[u32]) -> Panel
-    requires { (length labels.now ≤ 32) × (length entries.now ≤ 384) }
-    ensures { result ≡ fresh_panel s labels.now entries.now }
+fn filled(scheme: Checked<'_>) -> Panel
+    ensures { result ≡ fresh_panel scheme.entry.shape scheme.entry.labels.now scheme.entry.entries.now }
 {
-    let mut own_labels = [0; 32];
-    let mut own_entries = [0; 384];
-    own_labels[..labels.len()].copy_from_slice(labels);
-    own_entries[..entries.len()].copy_from_slice(entries);
+    let s = scheme.shape;
+    let mut labels = [0; 32];
+    let mut entries = [0; 384];
+    labels[..scheme.labels.len()].copy_from_slice(scheme.labels);
+    entries[..scheme.entries.len()].copy_from_slice(scheme.entries);
     Panel {
         p: s.p,
         n: s.n,
         d: s.d,
         e: s.e,
         cards: 0,
-        labels: own_labels,
-        entries: own_entries,
+        labels,
+        entries,
         stored: [0; 32],
     }
 }
@@ -137,7 +137,7 @@ pub fn fresh(scheme: Scheme<'_>) -> Result<Panel, Refusal>
     ensures { FreshSays scheme.entry.shape scheme.entry.labels.now scheme.entry.entries.now result }
 {
     let checked = scheme.checked(true)?;
-    Ok(filled(checked.shape, checked.labels, checked.entries))
+    Ok(filled(checked))
 }
 
 impl Panel {

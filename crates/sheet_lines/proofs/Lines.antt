@@ -1,10 +1,9 @@
 -- A set's line from the verdict and the vector that it shows; the lines of the sets one after another, one line more and many more.
 -- Assumes nothing.
-use mathlib.Core.Path.{◌≡◌, refl, sym, ap, ◌∙◌}
+use mathlib.Core.Path.{◌≡◌, refl}
 use mathlib.Core.Bool.{Bool, true, false}
-use mathlib.Core.List.{List, [], ◌++◌, append_assoc, append-nil}
-use Prim.Native.Nat.{ℕ, zero, suc, ◌+◌, ◌<◌}
-use native.Mathlib.Nat.{add_assoc}
+use mathlib.Core.List.{List, [], ◌++◌}
+use Prim.Native.Nat.{ℕ, ◌+◌, ◌<◌}
 use native.Mathlib.Numerals.{add-one}
 use native.Mathlib.Omega.{arith}
 use lib.ListN.{length}
@@ -18,6 +17,7 @@ use Rattle.digits.specs.Put.{Put, PutSome}
 use Rattle.digits.proofs.Puts.{put_none, put_put}
 use Rattle.sheet_lines.specs.Texts.{set_text}
 use Rattle.sheet_lines.specs.Lines.{Shows, IsLine, IsLines}
+use Rattle.sheet_lines.proofs.Settled as Settled
 
 module _ (s : Shape) (labels entries : List ℕ) (set : ℕ) where
   -- What the question of the set's rows hands out is what the line shows.
@@ -54,23 +54,12 @@ module _ (s : Shape) (labels entries : List ℕ) (first : ℕ) where
   })
 
   -- Lines of more sets stand behind those before them.
-  lines_append : (i count : ℕ) (a b : List ℕ) → IsLines s labels entries first i a → IsLines s labels entries (first + i) count b
-      → IsLines s labels entries first (i + count) (a ++ b)
-  lines_append i zero a b x y = let q : i + 0 ≡ i = omega arith in rw (q, y, append-nil a) x
-  lines_append i (suc count) a b x y = let q : i + suc count ≡ suc (i + count) = omega arith in rw q (
-    a ++ y.0,
-    y.1,
-    lines_append i count a y.0 x y.2,
-    rw (← add_assoc first i count) y.3,
-    ap (λ (l : List ℕ). a ++ l) y.4 ∙ sym (append_assoc a y.0 y.1),
-  )
-
   pub lines_join : (b : List ℕ) (at i count : ℕ) {a₁ a₂ : List ℕ} {m end : ℕ} → PutSome (IsLines s labels entries first i) b at m a₁
       → PutSome (IsLines s labels entries (first + i) count) a₁ m end a₂ → PutSome (IsLines s labels entries first (i + count)) b at end
       a₂
   lines_join b at i count x y = record {
     text = x.text ++ y.text;
-    is = lines_append i count x.text y.text x.is y.is;
+    is = Settled.lines_join s labels entries first i count x.text y.text x.is y.is;
     put = put_put b at x.text y.text x.put y.put;
   }
 

@@ -87,7 +87,3 @@ vector_turn b at p vs i {a₁ = a₁} {m₁ = m₁} h x s y = rw (vector_more p 
 pub vector_end : (b : List ℕ) (at p : ℕ) (vs : List ℕ) (i : ℕ) {a : List ℕ} {end : ℕ} → i ≡ length vs
     → Put b at (vector_text p (take i vs)) end a → Put b at (vector_text p vs) end a
 vector_end b at p vs i e x = let q : take i vs ≡ vs = ap (λ (k : ℕ). take k vs) e ∙ take-length vs in rw q at x
-
-pub put_verdict_text : (b : List ℕ) (at : ℕ) (opens v : Bool) {a : List ℕ} {end : ℕ} → opens ≡ v → Put b at (field (verdict_word v)) end a
-    → Put b at (field (verdict_word opens)) end a
-put_verdict_text b at opens v e x = rw e x

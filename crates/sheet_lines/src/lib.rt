@@ -14,6 +14,7 @@ use scheme::Checked;
 use walk::Answer;
 
 // A number as a field: a space before it.
+#[tactic(auto, using(crate::proofs::Texts::put_spaced))]
 fn put_field(out: &mut [u8], at: usize, n: u32) -> usize
     requires { at + 11 ≤ length out.old }
     ensures put { Put out.old at (field (decimal n)) result out.new }

@@ -35,6 +35,7 @@ fn alike(a: u32, b: u32, most: usize) -> usize
 }
 
 // Goes through the rows from `from` on until one gives the target: that row, with r; or d, as `Walked` (specs/Going.antt) has it.
+// The row is a number, d for none: as an `Option` it was tried and proved, and the sheets took 2 to 4 percent longer.
 fn go_on(
     f: PrimeModulus,
     d: usize,
@@ -156,7 +157,6 @@ pub fn fill(scheme: Checked<'_>, base: u32, count: u32, slots: &mut [Option<Answ
     let s = scheme.shape;
     let f = PrimeModulus::new(s.p);
     let d = s.d;
-    let entries = scheme.entries;
     let mut t = [[0u32; 27]; 12];
     let mut counts = [0u32; 33];
     let mut r = [0u32; 32];
@@ -167,7 +167,7 @@ pub fn fill(scheme: Checked<'_>, base: u32, count: u32, slots: &mut [Option<Answ
         s.e,
         last,
         0,
-        entries,
+        scheme.entries,
         &mut t,
         &mut counts,
         &mut r[..d],
@@ -182,7 +182,7 @@ pub fn fill(scheme: Checked<'_>, base: u32, count: u32, slots: &mut [Option<Answ
             last,
             chosen,
             row,
-            entries,
+            scheme.entries,
             &mut t,
             &mut counts,
             &mut r[..d],

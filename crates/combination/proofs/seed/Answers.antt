@@ -9,11 +9,11 @@ use Rattle.combination.proofs.seed.Goals as goal
 cleared : (u : List ℕ) (n i : ℕ) → u ≡ replicate n 0 → place u i ≡ 0
 cleared u n i e = ap (λ l. place l i) e ∙ zeros_at n i
 
-pub returns-then-i-n : goal.returns-then-i-n
-returns-then-i-n c =
-    seeded_no _ _ _ _ _ c.first_nonzero-i.ensures (search rules) (λ i. cleared _ _ i (c.fill.ensures.after (search rules))) c.if-i-n.true
+pub returns-in_default : goal.returns-in_default
+returns-in_default c =
+    seeded_no _ _ _ _ (search rules) (λ i. cleared _ _ i (c.fill.ensures.after (search rules))) c.in_default.ensures
 
 pub returns : goal.returns
 returns c =
-    seeded_yes _ _ _ _ _ c.first_nonzero-i.ensures (search rules) (λ i. cleared _ _ i (c.fill.ensures.after (search rules))) _ c.if-i-n.false
-    c.inverse.ensures.0
+    let f = c.in-Some.ensures in
+    seeded_yes _ _ _ _ (search rules) (λ i. cleared _ _ i (c.fill.ensures.after (search rules))) _ _ f.0 c.inverse.ensures.0
