@@ -124,10 +124,10 @@ uint32_t clavirost_sheet_part(const uint8_t *file, size_t file_length, uint32_t 
 /* The deepest stack below each call, in bytes, with the largest inputs (bench/stack measures it on the compiled library):
 
    check              120      deal               184      ask, closed      2,744
-   ask, open        2,744      join             6,744      product         31,452
+   ask, open        2,744      join             6,728      product         31,436
    threshold        2,376      rule, deep      11,376      rule, long       6,096
-   write              184      read               232      panel_new        1,864
-   panel_put        2,328      panel_take       2,120      panel_code       8,648
+   write              184      read               232      panel_new        1,992
+   panel_put        2,328      panel_take       2,120      panel_code       8,632
    sheet_line       3,112      sheet_part     561,896
 
    A set question needs less than 4 KiB, the product verdict less than 64 KiB. clavirost_sheet_part keeps the answers of up to 4,096 sets; a thread

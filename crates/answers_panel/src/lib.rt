@@ -75,10 +75,7 @@ pub fn new_line(to: &mut impl Write, xs: &[u32]) -> io::Result<bool> {
         return Ok(false);
     }
     show::text(to, b"panel_new")?;
-    match panel::fresh(requests::scheme(xs)) {
-        Ok(made) => write_state(to, made)?,
-        Err(why) => show::refused(to, why)?,
-    }
+    write_told(to, panel::fresh(requests::scheme(xs)))?;
     Ok(true)
 }
 

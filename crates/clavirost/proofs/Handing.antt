@@ -10,11 +10,10 @@ use Rattle.scheme.specs.Numbers.{number_lem}
 use Rattle.scheme.specs.Refusal.{numbers_refusal_lem, refusal_of}
 use Rattle.scheme.specs.Outcome.{left_at}
 use Rattle.scheme.proofs.Refusals.{or_else_ok, unless_ok, and-true, valid_fits, checked_scheme}
-use Rattle.scheme.proofs.Outcomes.{not_both}
 use Rattle.panel.specs.declared.Panel.{Panel}
 use Rattle.panel.specs.declared.Told as Panel
 use Rattle.panel.specs.declared.Coded.{Coded}
-use Rattle.panel.specs.Cards.{put_in, taken_out, fresh_panel}
+use Rattle.panel.specs.Cards.{put_in, taken_out, told_at, fresh_panel, blank_panel}
 use Rattle.panel.specs.Says.{CodeSays, FreshSays}
 use Rattle.clavirost.specs.Numbers.{answer_number, after}
 use Rattle.clavirost.specs.Places.{panel_of_lem, places_right_lem, places_refusal_lem, told_in, PanelTold, PutTold, TakeTold, CodeIn, CodeTold}
@@ -89,10 +88,13 @@ module _ (s : Shape) (labels entries : List ℕ) (cards : ℕ) (stored : List �
     }
 
 -- A fresh panel of a scheme of which nothing is refused.
-pub made_says : (s : Shape) (labels entries : List ℕ) (fits : Bool) (a : Result Panel Refusal)
-    → refusal_of s labels entries fits (Ok tt) ≡ Ok tt → FreshSays s labels entries a → MadeSays s labels entries fits a
-made_says s labels entries fits (Ok a) h x = (h, x.1)
-made_says s labels entries fits (Err k) h x = absurd (not_both k (checked_scheme s labels entries fits h) x)
+pub made_says : (s : Shape) (labels entries : List ℕ) (fits : Bool) (told : Panel.Told)
+    → refusal_of s labels entries fits (Ok tt) ≡ Ok tt → FreshSays s labels entries told → MadeSays s labels entries fits (Ok told.panel)
+made_says s labels entries fits told h x = (
+  h,
+  ap (λ (told : Panel.Told). told.panel) (x
+      ∙ ap (λ (r : Result Unit Refusal). told_at r blank_panel (fresh_panel s labels entries)) (checked_scheme s labels entries fits h)),
+)
 
 pub made_refused : (s : Shape) (labels entries : List ℕ) (fits : Bool) (a : Result Panel Refusal) (k : Refusal)
     → refusal_of s labels entries fits (Ok tt) ≡ Err k → a ≡ Err k → MadeSays s labels entries fits a

@@ -387,7 +387,7 @@ fn made(given: Scheme<'_>, fits: bool) -> Result<Panel, Refusal>
     ensures { MadeSays given.entry.shape given.entry.labels.now given.entry.entries.now fits result }
 {
     given.refusal(fits)?;
-    panel::fresh(given)
+    Ok(panel::fresh(given).panel)
 }
 
 // Makes a panel with no card: its lists are left in its places.

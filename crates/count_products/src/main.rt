@@ -6,6 +6,7 @@
 
 use scheme::{Scheme, Shape};
 use std::io;
+use std::io::{BufWriter, Write};
 
 const LABELS: [u32; 3] = [1, 2, 3];
 
@@ -48,6 +49,14 @@ fn any_two_of_three(entries: &[u32; 6]) -> bool {
     threshold::threshold(scheme(entries), 1) == Ok(None)
 }
 
+fn print(to: &mut impl Write, products: u32, both: u32) -> io::Result<()> {
+    let matrices = MATRICES;
+    writeln!(to, "matrices {matrices}")?;
+    writeln!(to, "product yes {products}")?;
+    writeln!(to, "also threshold 1 yes {both}")?;
+    to.flush()
+}
+
 fn main(rt: HostRuntime) -> io::Result<()> {
     let mut products = 0u32;
     let mut both = 0u32;
@@ -60,7 +69,6 @@ fn main(rt: HostRuntime) -> io::Result<()> {
             }
         }
     }
-    println!(rt; "matrices {MATRICES}")?;
-    println!(rt; "product yes {products}")?;
-    println!(rt; "also threshold 1 yes {both}")
+    let mut to = BufWriter::new(rt.alloc(), io::writer(&rt))?;
+    print(&mut to, products, both)
 }

@@ -47,8 +47,7 @@ fn code(to: &mut impl Write, a: Panel) -> io::Result<Panel> {
     Ok(c.panel)
 }
 
-// The fresh panel, or none where it is refused; the day ends there.
-fn fresh(to: &mut impl Write) -> io::Result<Option<Panel>> {
+fn fresh(to: &mut impl Write) -> io::Result<Panel> {
     let shape = Shape {
         p: 17,
         n: 5,
@@ -61,17 +60,7 @@ fn fresh(to: &mut impl Write) -> io::Result<Option<Panel>> {
         entries: &ENTRIES,
     };
     show::text(to, b"fresh")?;
-    match panel::fresh(scheme) {
-        Ok(a) => {
-            show::text(to, b" OK")?;
-            Ok(Some(state(to, a)?))
-        }
-        Err(why) => {
-            show::refused(to, why)?;
-            show::text(to, b"\n")?;
-            Ok(None)
-        }
-    }
+    told(to, panel::fresh(scheme))
 }
 
 // Nobody; one card; the same card twice; a card that is not in; a participant outside 1 to 5; a share that is none.
@@ -108,10 +97,9 @@ fn evening(to: &mut impl Write, a: Panel) -> io::Result<Panel> {
 
 fn main(rt: HostRuntime) -> io::Result<()> {
     let mut to = BufWriter::new(rt.alloc(), io::writer(&rt))?;
-    if let Some(a) = fresh(&mut to)? {
-        let b = morning(&mut to, a)?;
-        let c = noon(&mut to, b)?;
-        evening(&mut to, c)?;
-    }
+    let a = fresh(&mut to)?;
+    let b = morning(&mut to, a)?;
+    let c = noon(&mut to, b)?;
+    evening(&mut to, c)?;
     to.flush()
 }

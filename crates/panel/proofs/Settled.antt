@@ -1,6 +1,6 @@
 -- The contracts of the panel's calls settle their answers: any two that they permit are equal. Putting in and taking out are functions.
 -- Assumes nothing.
-use Rattle.std.specs.Prelude.{Result, Ok, Err}
+use Rattle.std.specs.Prelude.{Result}
 use mathlib.Core.Path.{◌≡◌, sym, ap₂, ◌∙◌}
 use mathlib.Core.List.{List}
 use Prim.Native.Nat.{ℕ}
@@ -13,11 +13,8 @@ use Rattle.panel.specs.declared.Coded.{Coded}
 use Rattle.panel.specs.Cards.{shape_of, labels_of, entries_of, stored_of, put_in, taken_out}
 use Rattle.panel.specs.Says.{FreshSays, CodeSays}
 
-pub fresh_settled : (s : Shape) (labels entries : List ℕ) (x y : Result Panel Refusal) → FreshSays s labels entries x → FreshSays s labels entries y → x ≡ y
-fresh_settled s labels entries (Ok a) (Ok b) e f = cc
-fresh_settled s labels entries (Ok a) (Err k) e f = absurd (cc)
-fresh_settled s labels entries (Err j) (Ok b) e f = absurd (cc)
-fresh_settled s labels entries (Err j) (Err k) e f = cc
+pub fresh_settled : (s : Shape) (labels entries : List ℕ) (x y : Told) → FreshSays s labels entries x → FreshSays s labels entries y → x ≡ y
+fresh_settled s labels entries x y e f = e ∙ sym f
 
 pub put_settled : (a : Panel) (who : ℕ) (shares : List ℕ) (x y : Told) → x ≡ put_in a who shares → y ≡ put_in a who shares → x ≡ y
 put_settled a who shares x y e f = e ∙ sym f

@@ -106,3 +106,16 @@ fresh_panel s labels entries = record {
   entries = over entries (replicate 384 0);
   stored = replicate 32 0;
 }
+
+-- Zeros in every place: what stands beside a refusal to make a panel. Every call refuses it.
+abbrev pub blank_panel : Panel
+blank_panel = record {
+  p = 0;
+  n = 0;
+  d = 0;
+  e = 0;
+  cards = 0;
+  labels = replicate 32 0;
+  entries = replicate 384 0;
+  stored = replicate 32 0;
+}

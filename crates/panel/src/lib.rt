@@ -6,7 +6,7 @@ ghost use Rattle.std.specs.Prelude.{◌≡◌, ◌≤◌, ◌-◌, ◌^◌, leng
 ghost use Rattle.scheme.specs.Tests.{within, refused};
 ghost use Rattle.scheme.specs.Refusal.{numbers_refusal_lem};
 ghost use Rattle.scheme.specs.Outcome.{over};
-ghost use Rattle.panel.specs.Cards.{shape_of, labels_of, entries_of, stored_of, rows_of, laid, fresh_panel, put_refusal_lem, take_refusal_lem, put_in, taken_out};
+ghost use Rattle.panel.specs.Cards.{shape_of, labels_of, entries_of, stored_of, rows_of, laid, fresh_panel, blank_panel, put_refusal_lem, take_refusal_lem, put_in, taken_out};
 ghost use Rattle.join.specs.Says.{JoinSays};
 ghost use Rattle.panel.specs.Says.{FreshSays, CodeSays};
 ghost use Rattle.panel.specs.Steps.{places_right_lem, lists_refusal_lem};
@@ -26,7 +26,8 @@ pub struct Panel {
     pub stored: [u32; 32],
 }
 
-// What putting in or taking out answers, and the panel after it: document 01 hands the panel back beside a refusal too, so no Result of it.
+// What making a panel, putting in or taking out answers, and the panel after it: document 01 hands the panel back beside a refusal too, so no
+// Result of it.
 #[derive(Clone, Copy)]
 pub struct Told {
     pub said: Result<(), Refusal>,
@@ -132,12 +133,37 @@ fn filled(scheme: Checked<'_>) -> Panel
     }
 }
 
-// Makes a panel from a scheme. Wrong answers that the contract rules out: a panel with a scheme that checking refuses; one with a card in it.
-pub fn fresh(scheme: Scheme<'_>) -> Result<Panel, Refusal>
+// A panel of zeros.
+fn blank() -> Panel
+    ensures { result ≡ blank_panel }
+{
+    Panel {
+        p: 0,
+        n: 0,
+        d: 0,
+        e: 0,
+        cards: 0,
+        labels: [0; 32],
+        entries: [0; 384],
+        stored: [0; 32],
+    }
+}
+
+// Makes a panel from a scheme; beside a refusal stands one of zeros. Wrong answers that the contract rules out: a panel with a scheme that
+// checking refuses; one with a card in it.
+pub fn fresh(scheme: Scheme<'_>) -> Told
     ensures { FreshSays scheme.entry.shape scheme.entry.labels.now scheme.entry.entries.now result }
 {
-    let checked = scheme.checked(true)?;
-    Ok(filled(checked))
+    match scheme.checked(true) {
+        Ok(checked) => Told {
+            said: Ok(()),
+            panel: filled(checked),
+        },
+        Err(why) => Told {
+            said: Err(why),
+            panel: blank(),
+        },
+    }
 }
 
 impl Panel {

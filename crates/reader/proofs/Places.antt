@@ -2,13 +2,17 @@
 -- Assumes nothing.
 use mathlib.Core.Path.{◌≡◌, refl, subst, ◌∙◌}
 use mathlib.Core.Bool.{Bool, true, false, not, cond, ◌&&◌}
-use mathlib.Core.List.{List}
+use mathlib.Core.List.{List, [], ◌∷◌}
 use Prim.Native.Nat.{ℕ, zero, suc, ◌+◌, ◌-◌, ◌<◌, ◌≤◌}
 use native.Mathlib.Omega.{arith}
 use lib.Dec.{T, ltb, eqb, leb}
 use lib.ListN.{length}
+use mir.Val.{has_key}
+use types.Run.{OneOf, hit}
+use denote.Enum.Declared.{tag_of}
 use borrow.Author.Tests.{ltb-true, ne_eqb}
 use Rattle.std.specs.Prelude.{Some, None}
+use Rattle.reader.specs.contracts.Kind.{the_type}
 use Rattle.reader.specs.declared.Kind.{Kind}
 use Rattle.reader.specs.declared.Kind.TheVariants.{Digit, Zero, Or, And, Open, Close, Other}
 use Rattle.reader.specs.Grammar.{kind_at, tag, is_digit, is_or, is_and, is_close, digit, number_end_lem, after, on_atom, rule_end, term_end, atom_end, Within}
@@ -35,6 +39,40 @@ not_number And n = refl
 not_number Open n = refl
 not_number Close n = refl
 not_number Other n = refl
+
+-- The arm of `_` says which kinds it has not: the tags of the others are left.
+left : (tags : List ℕ) (k : Kind)
+    → ((d : ℕ) → k ≡ Digit d → T (has_key tags 0))
+    → (k ≡ Zero → T (has_key tags 1))
+    → (k ≡ Or → T (has_key tags 2))
+    → (k ≡ And → T (has_key tags 3))
+    → (k ≡ Open → T (has_key tags 4))
+    → (k ≡ Close → T (has_key tags 5))
+    → (k ≡ Other → T (has_key tags 6))
+    → OneOf tags (tag_of the_type k)
+left tags (Digit e) d z o a p c x = hit tags 0 (d e refl)
+left tags Zero d z o a p c x = hit tags 1 (z refl)
+left tags Or d z o a p c x = hit tags 2 (o refl)
+left tags And d z o a p c x = hit tags 3 (a refl)
+left tags Open d z o a p c x = hit tags 4 (p refl)
+left tags Close d z o a p c x = hit tags 5 (c refl)
+left tags Other d z o a p c x = hit tags 6 (x refl)
+
+module _ (k : Kind) where
+  pub left_or : (k ≡ Or → ⊥) → OneOf (0 ∷ 1 ∷ 3 ∷ 4 ∷ 5 ∷ 6 ∷ []) (tag_of the_type k)
+  left_or o = left (0 ∷ 1 ∷ 3 ∷ 4 ∷ 5 ∷ 6 ∷ []) k (λ _ _. tt) (λ _. tt) o (λ _. tt) (λ _. tt) (λ _. tt) (λ _. tt)
+
+  pub left_and : (k ≡ And → ⊥) → OneOf (0 ∷ 1 ∷ 2 ∷ 4 ∷ 5 ∷ 6 ∷ []) (tag_of the_type k)
+  left_and a = left (0 ∷ 1 ∷ 2 ∷ 4 ∷ 5 ∷ 6 ∷ []) k (λ _ _. tt) (λ _. tt) (λ _. tt) a (λ _. tt) (λ _. tt) (λ _. tt)
+
+  pub left_close : (k ≡ Close → ⊥) → OneOf (0 ∷ 1 ∷ 2 ∷ 3 ∷ 4 ∷ 6 ∷ []) (tag_of the_type k)
+  left_close c = left (0 ∷ 1 ∷ 2 ∷ 3 ∷ 4 ∷ 6 ∷ []) k (λ _ _. tt) (λ _. tt) (λ _. tt) (λ _. tt) (λ _. tt) c (λ _. tt)
+
+  pub left_digit : ((d : ℕ) → k ≡ Digit d → ⊥) → (k ≡ Zero → ⊥) → OneOf (2 ∷ 3 ∷ 4 ∷ 5 ∷ 6 ∷ []) (tag_of the_type k)
+  left_digit d z = left (2 ∷ 3 ∷ 4 ∷ 5 ∷ 6 ∷ []) k d z (λ _. tt) (λ _. tt) (λ _. tt) (λ _. tt) (λ _. tt)
+
+  pub left_atom : ((d : ℕ) → k ≡ Digit d → ⊥) → (k ≡ Open → ⊥) → OneOf (1 ∷ 2 ∷ 3 ∷ 5 ∷ 6 ∷ []) (tag_of the_type k)
+  left_atom d p = left (1 ∷ 2 ∷ 3 ∷ 5 ∷ 6 ∷ []) k d (λ _. tt) (λ _. tt) (λ _. tt) p (λ _. tt) (λ _. tt)
 
 -- More fuel than the measure m is not 0.
 pub above : {m : ℕ} (P : ℕ → Type 0) → ((n : ℕ) → m ≤ n → P (suc n)) → (n : ℕ) → m < n → P n

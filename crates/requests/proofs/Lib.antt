@@ -1,3 +1,4 @@
 pub mod Steps
 pub mod Cases
 pub mod Bytes
+pub mod Parts

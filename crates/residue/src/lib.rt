@@ -115,7 +115,7 @@ pub struct PrimeModulus {
 impl PrimeModulus {
     pub fn new(p: u32) -> PrimeModulus
         requires { Prime p }
-        ensures { result.m.p ≡ p }
+        ensures { (result.m.p ≡ p) × (result.m.inv ≡ 8796093022208 / p) }
     {
         PrimeModulus { m: Modulus::new(p) }
     }

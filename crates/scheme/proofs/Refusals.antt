@@ -61,7 +61,7 @@ unfolding refusal_of
 refusal_more s labels entries fits more = simp (or_else_none, or_else_assoc)
 
 -- Each modulus has 16 bits.
-modulus_below : (p : ℕ) → is_modulus_lem p ≡ true → p < 65536
+pub modulus_below : (p : ℕ) → is_modulus_lem p ≡ true → p < 65536
 modulus_below p h = ltb→lt p 65536 (all_lift (λ q. ltb q 65536) p moduli tt h)
 
 -- What the four numbers have where nothing is refused of them.

@@ -3,6 +3,7 @@
 
 #![tactic(auto)]
 
+use itoa::{Buffer, Integer};
 use scheme::Refusal;
 use std::fmt::Display;
 use std::io;
@@ -22,24 +23,59 @@ pub fn number(to: &mut impl Write, x: impl Display + Drop) -> io::Result<()> {
     write!(to, " {x}")
 }
 
-// A list that was lent, after the call. The programs' writer gathers what is written.
-pub fn list<T: Display>(to: &mut impl Write, xs: &[T]) -> io::Result<()> {
+// Places for the text of so many numbers of a list: each has a blank and at most 40 digits.
+const TEXT: usize = 4096;
+
+const NUMBERS: usize = 99;
+
+// A blank and a number's digits put at a place of a text; the place after them. A text that is full stays as it is.
+fn put(text: &mut [u8; TEXT], at: usize, digits: &[u8]) -> usize {
+    if TEXT - digits.len().min(TEXT) <= at {
+        return at;
+    }
+    let end = at + 1 + digits.len();
+    text[at] = b' ';
+    text[at + 1..end].copy_from_slice(digits);
+    end
+}
+
+// So many numbers of a list, in one write. Lists are long, and `itoa` makes digits in less time than `write!`.
+fn numbers<T: Integer>(to: &mut impl Write, part: &[T]) -> io::Result<()> {
+    let mut text = [0; TEXT];
+    let mut digits = Buffer::new();
+    let mut at = 0;
+    for x in part {
+        at = put(&mut text, at, digits.format(*x).as_bytes());
+    }
+    to.write_all(&text[..at.min(TEXT)])
+}
+
+// A list that was lent, after the call.
+pub fn list<T: Integer>(to: &mut impl Write, xs: &[T]) -> io::Result<()> {
     start(to, xs.is_empty())?;
-    for x in xs {
-        write!(to, " {x}")?;
+    for part in xs.chunks(NUMBERS) {
+        numbers(to, part)?;
     }
     Ok(())
 }
 
-// A list of bytes that a call had to leave as it was: a byte that is still the mark is written as the mark of the other lists.
+// The number that stands for a byte that a call had to leave as it was: the mark of the other lists for one that is still the mark.
+fn left(x: u8) -> u32 {
+    if x == BYTE_MARK {
+        return MARK;
+    }
+    u32::from(x)
+}
+
+// A list of bytes that a call had to leave as it was.
 pub fn left_bytes(to: &mut impl Write, xs: &[u8]) -> io::Result<()> {
     start(to, xs.is_empty())?;
-    for x in xs {
-        if *x == BYTE_MARK {
-            number(to, MARK)?;
-        } else {
-            number(to, *x)?;
+    for part in xs.chunks(NUMBERS) {
+        let mut places = [0; NUMBERS];
+        for (place, x) in places.iter_mut().zip(part) {
+            *place = left(*x);
         }
+        numbers(to, &places[..part.len().min(NUMBERS)])?;
     }
     Ok(())
 }
@@ -48,7 +84,7 @@ fn start(to: &mut impl Write, none: bool) -> io::Result<()> {
     to.write_all(if none { b" | " } else { b" |" })
 }
 
-pub fn refused(to: &mut impl Write, why: Refusal) -> io::Result<()> {
+pub fn refused(to: &mut impl Write, why: impl Display + Drop) -> io::Result<()> {
     text(to, b" REFUSED")?;
     number(to, why)
 }

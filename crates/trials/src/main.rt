@@ -36,7 +36,7 @@
 #![tactic(auto)]
 
 use std::io;
-use std::io::{BufRead, BufReader, BufWriter, Read, Write};
+use std::io::{BufRead, BufReader, BufWriter, Write};
 
 const NEWLINE: u8 = 10;
 
@@ -44,6 +44,9 @@ const NEWLINE: u8 = 10;
 const BYTES: usize = 131072;
 
 const NUMBERS: usize = 16384;
+
+// The most bytes that are read at once.
+const PART: usize = 65536;
 
 // The table of names.
 fn request(to: &mut impl Write, name: &[u8], xs: &[u32]) -> io::Result<bool> {
@@ -80,43 +83,58 @@ fn answer_line(to: &mut impl Write, line: &[u8], numbers: &mut [u32]) -> io::Res
     if !answer(to, line, numbers)? {
         show::text(to, b"? no request")?;
     }
-    show::text(to, b"\n")?;
-    to.flush()
+    show::text(to, b"\n")
 }
 
-// The next line, without its end; none where the input has ended. Of a line with more bytes than a request has, one byte too many is kept.
-fn next_line<'a>(from: &mut impl BufRead, line: &'a mut Vec<u8>) -> io::Result<Option<&'a [u8]>> {
-    line.clear();
-    let size = from
-        .by_ref()
-        .take(BYTES as u64 + 1)
-        .read_until(NEWLINE, line)?;
-    if size == 0 {
-        return Ok(None);
-    }
-    if line.last() == Some(&NEWLINE) {
-        line.pop();
-    } else if line.len() > BYTES {
-        from.skip_until(NEWLINE)?;
-    }
-    Ok(Some(line))
+// More bytes of a line, without its end. Of a line with more bytes than a request has, one byte too many is kept.
+fn keep(line: &mut Vec<u8>, more: &[u8]) -> io::Result<()> {
+    let room = (BYTES + 1).saturating_sub(line.len());
+    line.extend_from_slice(&more[..more.len().min(room)])?;
+    Ok(())
 }
 
-// Answers all lines of the input; a line's answer is out before the next line is read. A proved loop has to end, and nothing says that the
-// input does: it has more turns than any run uses up.
-fn run(from: &mut impl BufRead, to: &mut impl Write, line: &mut Vec<u8>) -> io::Result<()> {
-    let mut numbers = [0; NUMBERS];
-    for _ in 0..u64::MAX {
-        let Some(line) = next_line(from, line)? else {
-            break;
+// A part of the input taken in: the lines that end in it are answered, and what begins the next line is kept.
+fn take_in(
+    to: &mut impl Write,
+    part: &[u8],
+    line: &mut Vec<u8>,
+    numbers: &mut [u32],
+) -> io::Result<()> {
+    for piece in part.split_inclusive(|byte| *byte == NEWLINE) {
+        let Some(text) = piece.strip_suffix(&[NEWLINE]) else {
+            return keep(line, piece);
         };
-        answer_line(to, line, &mut numbers)?;
+        keep(line, text)?;
+        answer_line(to, line, numbers)?;
+        line.clear();
     }
     Ok(())
 }
 
+// Answers all lines of the input; the answers to a part are out before more is read, and the first read that gives nothing ends the input. A
+// proved loop has to end, and nothing says that the input does: it has more turns than any run uses up.
+fn run(from: &mut impl BufRead, to: &mut impl Write, line: &mut Vec<u8>) -> io::Result<()> {
+    let mut numbers = [0; NUMBERS];
+    for _ in 0..u64::MAX {
+        let part = from.fill_buf()?;
+        let size = part.len();
+        if size == 0 {
+            break;
+        }
+        take_in(to, part, line, &mut numbers)?;
+        from.consume(size);
+        to.flush()?;
+    }
+    if !line.is_empty() {
+        answer_line(to, line, &mut numbers)?;
+    }
+    to.flush()
+}
+
+// All memory that is taken from the heap is taken here, before anything is read: a line has its places from the start.
 fn main(rt: HostRuntime) -> io::Result<()> {
-    let mut from = BufReader::new(rt.alloc(), rt.reader())?;
+    let mut line = Vec::with_capacity(rt.alloc(), BYTES + 1)?;
+    let mut from = BufReader::with_capacity(rt.alloc(), PART, rt.reader())?;
     let mut to = BufWriter::new(rt.alloc(), io::writer(&rt))?;
-    run(&mut from, &mut to, &mut Vec::new(rt.alloc()))
+    run(&mut from, &mut to, &mut line)
 }

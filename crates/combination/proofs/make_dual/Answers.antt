@@ -24,8 +24,8 @@ returns c =
       u_len = c.separate.ensures.len;
       c_size = c.down.ensures.size;
       is = duals_next _ _ _ _ _ _ _ _ _ _ _ c.requires.duals_of
-          (λ i l. ap (λ x. place x i) c.copy_from_slice.ensures.after ∙ row_at _ _ _ i l)
+          (λ i l. ap (λ x. place x i) c.copy.ensures ∙ row_at _ _ _ i l)
           c.down.ensures c.separate.ensures
-          (λ i l. stored _ _ i _ _ _ q.1 c.copy_from_slice-2.ensures.after c.separate.ensures.len l)
+          (λ i l. stored _ _ i _ _ _ q.1 c.copy-2.ensures c.separate.ensures.len l)
           (λ j l. kept _ _ j _ _ q.1 l);
     }

@@ -42,7 +42,7 @@ returns-else-not-opens c =
     let a = c.args in
     let l = c.loop-k in
     subst (λ (p : ℕ). Answered p a.d a.e a.chosen a.entries.now a.r.now a.z.now (record { opens = l.opens; rank = l.s }) l.r a.z.now)
-    c.new-f.ensures
+    c.new-f.ensures.0
     (answered_open c.new-f.result.m.p a.e (a.e - 1) a.d a.chosen a.entries.now (omega arith) c.new-f.result.prime l.k l.s l.t a.r.now a.z.now
     l.r l.opens c.requires.d_bound.4 (omega arith) l.invariant c.if-not-opens.false)
 
@@ -54,7 +54,7 @@ returns-then-not-opens c =
     let u = c.unload in
     let n : length a.z.now ≡ a.e = c.requires.d_bound.5 in
     subst (λ (p : ℕ). Answered p a.d a.e a.chosen a.entries.now a.r.now a.z.now (record { opens = l.opens; rank = l.s }) l.r u.new.z)
-    c.new-f.ensures
+    c.new-f.ensures.0
     (answered_closed c.new-f.result.m.p a.e (a.e - 1) a.d a.chosen a.entries.now (omega arith) c.new-f.result.prime l.k l.s l.t a.r.now a.z.now
     l.r l.opens c.requires.d_bound.4 (omega arith) l.invariant c.if-not-opens.true y.result u.new.z y.ensures.small.0 y.ensures.small.1
     y.ensures.kills (u.ensures.first.0 ∙ n) (u.ensures.first.1 ∙ ap (λ (n : ℕ). get_or y.result (n - 1) 0) n)

@@ -43,7 +43,7 @@ of_rows c =
     let chosen = bit c.chosen_rows-chosen.result in
     let q : s.e ≡ suc (s.e - 1) = omega (arith, a.valid.e_low) in
     told s a.labels.now a.entries.now c.loop-set.set c.chosen_rows-chosen.result a.valid.labels_length
-    c.chosen_rows-chosen.ensures.bits c.loop-k-test.opens c.new-f.ensures
+    c.chosen_rows-chosen.ensures.bits c.loop-k-test.opens c.new-f.ensures.0
     (λ h. elim c.loop-k-test.branch [
       | then-loop-k-test+then-is_target w ↦ met_open f.m.p s.e (s.e - 1) s.d a.entries.now chosen q l.k l.lines l.table l.invariant
           w.next_line-v.result f.prime a.valid.e_high w.next_line-v.ensures (omega arith) (is_here w.is_target.ensures w.if-is_target.true)

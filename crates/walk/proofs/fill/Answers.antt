@@ -46,7 +46,7 @@ loop-i-preserved c =
       w,
       kept_turn s a.labels.now a.entries.now c.args.base x.result rows.result g.result counts t (z ++ rest) c.answer_of.result l.slots
           v.labels_length rows.ensures.bits whole
-          (subst (λ (p : ℕ). Walked p s.d s.e (entry s.e a.entries.now) (bit rows.result) g.result counts t (take s.d (z ++ rest))) c.new-f.ensures w)
-          (subst (λ (p : ℕ). Told p s.d s.e g.result (place counts s.d) t (z ++ rest) c.answer_of.result) c.new-f.ensures c.answer_of.ensures)
+          (subst (λ (p : ℕ). Walked p s.d s.e (entry s.e a.entries.now) (bit rows.result) g.result counts t (take s.d (z ++ rest))) c.new-f.ensures.0 w)
+          (subst (λ (p : ℕ). Told p s.d s.e g.result (place counts s.d) t (z ++ rest) c.answer_of.result) c.new-f.ensures.0 c.answer_of.ensures)
           (omega (arith, x.ensures, c.requires.count_bound.1)) l.invariant.2,
     )
