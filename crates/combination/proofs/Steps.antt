@@ -9,7 +9,7 @@ use native.Mathlib.Nat.{le_refl, eq-or-lt_of_le, mod-eq_of_lt}
 use native.Mathlib.Numerals.{add-one}
 use native.Mathlib.Omega.{arith}
 use lib.ListN.{length, get_or, set, length-set}
-use lib.Seq.{ext_get_or, get_or-set_same, get_or-set_other}
+use lib.Seq.{get_or-set_same, get_or-set_other}
 use Rattle.std.specs.List.{between}
 use Rattle.std.specs.Prelude.{Option, Some, None, is_some}
 use Rattle.std.proofs.lemmas.List.Edits.{get_or-between}
@@ -21,14 +21,15 @@ use Rattle.residue.specs.Prime.{Prime}
 use Rattle.residue.specs.Residue.{F, res, ◌⊕◌, ◌⊗◌, neg}
 use Rattle.residue.proofs.Field.{residue_ring, residues, res_same, res_mod, res_add, res_mul, res_zero, zero_res}
 use Rattle.linear.specs.Combination.{total}
-use Rattle.linear.specs.Flat.{place, entry}
+use Rattle.linear.specs.Flat.{place, entry, list_of}
 use Rattle.linear.proofs.Carry.{total_cong, res_dot, comb_up, coeffs_numbers}
 use Rattle.linear.proofs.Kept.{canon_coeffs}
+use Rattle.linear.proofs.Flat.{filled_list}
 use Rattle.linear.proofs.Dual.{Dual, Down, down_start, down_turn, found, refused, up_start, up_turn, next_none, next_some, dual_cong}
 use Rattle.combination.specs.Found.{Found}
 use Rattle.combination.specs.Steps.{row, vec, TakenOff, Cancelled, FirstNonzero}
 use Rattle.combination.specs.Steps.{DualsOf, Downed, Raised, Seeded, Separated}
-use Rattle.lists.proofs.Fill.{Filled, filled}
+use Rattle.lists.proofs.Fill.{Filled}
 use Rattle.lists.proofs.Store.{row_fits}
 
 -- x - r b, as the code computes it
@@ -204,7 +205,10 @@ module _ (p m n : ℕ) (vectors duals : List ℕ) where
   answered target t₀ c₀ t c None false H D e d f q = absurd (false≢true q)
   answered target t₀ c₀ t c (Some i) true H D e d f q = absurd (true≢false q)
 
--- A list that is filled with all numbers of another is that list.
+-- A list is the list of its places; so one that is filled with all numbers of another is that other list.
+listed : (xs : List ℕ) → list_of (length xs) (λ j. place xs j) ≡ xs
+listed [] = refl
+listed (x ∷ xs) = ap (λ (ys : List ℕ). x ∷ ys) (listed xs)
+
 pub copied : (from x₀ x : List ℕ) (i : ℕ) → Filled 0 (length from) (λ j. place from j) x₀ x i → length from ≤ i → length from ≡ length x₀ → x ≡ from
-copied from x₀ x i h l e = ext_get_or 0 x from (h.size ∙ sym e)
-    (λ k lk. filled (length from) (λ j. place from j) x₀ x i h l k (omega (arith, h.size)))
+copied from x₀ x i h l e = filled_list (length from) (λ j. place from j) x₀ x i h l (sym e) ∙ listed from
