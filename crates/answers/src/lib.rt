@@ -59,7 +59,7 @@ pub fn deal_line(to: &mut impl Write, xs: &[u32]) -> io::Result<bool> {
     show::text(to, b"deal")?;
     let told = deal::deal(scheme, secret, randoms, shares);
     show::outcome(to, told)?;
-    show::list(to, shares)?;
+    show::integers(to, shares)?;
     Ok(true)
 }
 
@@ -79,8 +79,8 @@ pub fn ask_line(to: &mut impl Write, xs: &[u32]) -> io::Result<bool> {
     show::text(to, b"ask")?;
     let told = ask::ask(scheme, set, r, z);
     write_asked(to, told)?;
-    show::list(to, r)?;
-    show::list(to, z)?;
+    show::integers(to, r)?;
+    show::integers(to, z)?;
     Ok(true)
 }
 
@@ -112,8 +112,8 @@ pub fn product_line(to: &mut impl Write, xs: &[u32]) -> io::Result<bool> {
     show::text(to, b"product")?;
     let told = product::product(scheme, r, w);
     write_product(to, told)?;
-    show::list(to, r)?;
-    show::list(to, w)?;
+    show::integers(to, r)?;
+    show::integers(to, w)?;
     Ok(true)
 }
 

@@ -42,8 +42,8 @@ pub fn rule_line(to: &mut impl Write, xs: &[u32]) -> io::Result<bool> {
     show::text(to, b"rule")?;
     let told = rule::build(p, n, &bytes[..text.len()], labels, entries);
     write_made(to, told)?;
-    show::list(to, labels)?;
-    show::list(to, entries)?;
+    show::integers(to, labels)?;
+    show::integers(to, entries)?;
     Ok(true)
 }
 
@@ -59,7 +59,7 @@ pub fn write_line(to: &mut impl Write, xs: &[u32]) -> io::Result<bool> {
     let told = writing::write(scheme, file);
     show::outcome(to, told)?;
     match told {
-        Ok(()) => show::list(to, file)?,
+        Ok(()) => show::integers(to, file)?,
         Err(_) => show::left_bytes(to, file)?,
     }
     Ok(true)
@@ -83,7 +83,7 @@ pub fn read_line(to: &mut impl Write, xs: &[u32]) -> io::Result<bool> {
     show::text(to, b"read")?;
     let told = reading::read(&bytes[..file.len()], labels, entries);
     write_made(to, told)?;
-    show::list(to, labels)?;
-    show::list(to, entries)?;
+    show::integers(to, labels)?;
+    show::integers(to, entries)?;
     Ok(true)
 }

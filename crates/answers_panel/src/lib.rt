@@ -60,7 +60,7 @@ fn holds(xs: &[u32], cards: usize) -> bool {
 fn write_state(to: &mut impl Write, a: Panel) -> io::Result<()> {
     show::text(to, b" OK")?;
     show::number(to, a.cards)?;
-    show::list(to, requests::first(&a.stored, a.d))
+    show::integers(to, requests::first(&a.stored, a.d))
 }
 
 fn write_told(to: &mut impl Write, t: Told) -> io::Result<()> {

@@ -17,7 +17,7 @@ const ENTRIES: [u32; 15] = [1, 1, 1, 1, 2, 4, 1, 3, 9, 1, 4, 16, 1, 5, 8];
 // The cards that are in, as a set, and all 32 places for shares, of which S uses five.
 fn state(to: &mut impl Write, a: Panel) -> io::Result<Panel> {
     show::number(to, a.cards)?;
-    show::list(to, &a.stored)?;
+    show::integers(to, &a.stored)?;
     show::text(to, b"\n")?;
     Ok(a)
 }

@@ -50,8 +50,17 @@ fn numbers<T: Integer>(to: &mut impl Write, part: &[T]) -> io::Result<()> {
     to.write_all(&text[..at.min(TEXT)])
 }
 
-// A list that was lent, after the call.
-pub fn list<T: Integer>(to: &mut impl Write, xs: &[T]) -> io::Result<()> {
+// A list that was lent, after the call: of anything that can be written. `integers` writes the same of whole numbers, in less time.
+pub fn list<T: Display>(to: &mut impl Write, xs: &[T]) -> io::Result<()> {
+    start(to, xs.is_empty())?;
+    for x in xs {
+        write!(to, " {x}")?;
+    }
+    Ok(())
+}
+
+// A list of whole numbers that was lent, after the call.
+pub fn integers<T: Integer>(to: &mut impl Write, xs: &[T]) -> io::Result<()> {
     start(to, xs.is_empty())?;
     for part in xs.chunks(NUMBERS) {
         numbers(to, part)?;
@@ -105,5 +114,22 @@ pub fn code(to: &mut impl Write, a: Result<u32, Refusal>) -> io::Result<()> {
             number(to, x)
         }
         Err(why) => refused(to, why),
+    }
+}
+
+#[cfg(test)]
+mod tests {
+    use super::*;
+    use std::test::Fail;
+
+    // Lists of what `integers` does not take, and one with nothing in it: document 01's numbers of two refusals, and texts.
+    #[test]
+    fn lists_what_is_no_number(rt: HostRuntime) -> Result<(), Fail> {
+        let mut to = Vec::new(rt.alloc());
+        list(&mut to, &[Refusal::NotBelowP, Refusal::CardNotIn])?;
+        list(&mut to, &["driver", "crew"])?;
+        list::<char>(&mut to, &[])?;
+        assert_eq!(rt; to.as_slice(), b" | 9 22 | driver crew | ".as_slice());
+        Ok(())
     }
 }
